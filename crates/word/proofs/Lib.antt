@@ -1,0 +1,11 @@
+pub mod First
+pub mod Tests
+pub mod Settings
+pub mod Parts
+pub mod Forms
+pub mod Decode
+pub mod RoundTrip
+pub mod Methods
+pub mod Plainly
+pub mod Writer
+pub mod Promises

@@ -1,0 +1,235 @@
+-- Laws of a word's parts, for any list of parts that lie side by side: what is put together is taken apart again, and
+-- what is taken apart is put together again. Assumes nothing.
+use Prim.Native.Nat.{ℕ, suc, _+_, _-_, _*_, _/_, _%_, _^_, _≤_, _<_}
+use mathlib.Core.Path.{_≡_, refl, sym, ap, subst, _∙_}
+use mathlib.Core.Bool.{Bool, true, false, _&&_, false≢true}
+use mathlib.Core.List.{List, [], _∷_, _++_}
+use native.Mathlib.Nat.{suc-mul, lt-of-lt-of-le, mul-le-mul-right, mod-lt, mod-one, mod-eq-of-lt, mul-mod-left, mul-add-mod-self-right}
+use native.Mathlib.Omega.{arith}
+use lib.Dec.{eqb, leb, ltb}
+use lib.ListN.{length, take, drop}
+use lib.Pow.{pow-pos, pow-add, shl-lt, shr-lt, high, split, mod-pow-add, mod-mod-pow, field}
+use borrow.Author.Tests.{lt-ltb, eq-eqb, ltb-true, leb-true, eqb-true}
+use Rattle.word.specs.Form.{bits, Part, is, holds, address, spare, fits, numbersIn}
+use Rattle.word.specs.Writing.{fit, wordWith, room}
+use Rattle.word.proofs.Tests.{both}
+
+abbrev pub hi : Part → ℕ
+hi (is h l v) = h
+hi (holds h l) = h
+hi (address h l) = h
+hi (spare h l) = h
+
+abbrev pub lo : Part → ℕ
+lo (is h l v) = l
+lo (holds h l) = l
+lo (address h l) = l
+lo (spare h l) = l
+
+-- whether the parts lie side by side below bit `top`, down to bit 0
+unfoldable pub tiled : ℕ → List Part → Bool
+tiled top [] = eqb top 0
+tiled top (p ∷ ps) = eqb (hi p + 1) top && (leb (lo p) (hi p) && tiled (lo p) ps)
+
+-- whether each fixed number fits its bits
+unfoldable pub fixed : List Part → Bool
+fixed [] = true
+fixed (is h l v ∷ ps) = ltb v (2 ^ (h + 1 - l)) && fixed ps
+fixed (holds h l ∷ ps) = fixed ps
+fixed (address h l ∷ ps) = fixed ps
+fixed (spare h l ∷ ps) = fixed ps
+
+-- whether no part is spare
+unfoldable pub whole : List Part → Bool
+whole [] = true
+whole (is h l v ∷ ps) = whole ps
+whole (holds h l ∷ ps) = whole ps
+whole (address h l ∷ ps) = whole ps
+whole (spare h l ∷ ps) = false
+
+-- what that says of the first part
+pub record Tile (top : ℕ) (p : Part) (ps : List Part) : Type 0 where
+  pub ends : hi p + 1 ≡ top
+  pub split-at : top ≡ (hi p + 1 - lo p) + lo p
+  pub rest : tiled (lo p) ps ≡ true
+
+tile : (top : ℕ) (p : Part) (ps : List Part) → tiled top (p ∷ ps) ≡ true → Tile top p ps
+unfolding tiled
+tile top p ps t =
+    let t₁ = both (eqb (hi p + 1) top) (leb (lo p) (hi p) && tiled (lo p) ps) t in
+    let t₂ = both (leb (lo p) (hi p)) (tiled (lo p) ps) (t₁ .1) in
+    let a : hi p + 1 ≡ top = eqb-true _ _ (t₁ .0) in
+    let b : lo p ≤ hi p = leb-true _ _ (t₂ .0) in
+    record { ends = a; split-at = omega arith; rest = t₂ .1 }
+
+-- what stands below bit `top` decides the bits there
+module _ (w v j l : ℕ) {top : ℕ} (t : top ≡ j + l) (e : w % 2 ^ top ≡ v % 2 ^ top) where
+  same : w % 2 ^ (j + l) ≡ v % 2 ^ (j + l)
+  same = rw t at e
+
+  same-bits : w / 2 ^ l % 2 ^ j ≡ v / 2 ^ l % 2 ^ j
+  same-bits = sym (field w j l) ∙ ap (λ (n : ℕ). n / 2 ^ l) same ∙ field v j l
+
+  same-below : w % 2 ^ l ≡ v % 2 ^ l
+  same-below = sym (mod-mod-pow w j l) ∙ ap (λ (n : ℕ). n % 2 ^ l) same ∙ mod-mod-pow v j l
+
+same-numbers : (top : ℕ) (ps : List Part) → tiled top ps ≡ true → (w v : ℕ) → w % 2 ^ top ≡ v % 2 ^ top → numbersIn ps w ≡ numbersIn ps v
+unfolding numbersIn
+same-numbers top [] t w v e = refl
+same-numbers top (is h l n ∷ ps) t w v e =
+    let p = tile top (is h l n) ps t in
+    same-numbers l ps (p .rest) w v (same-below w v (h + 1 - l) l (p .split-at) e)
+same-numbers top (holds h l ∷ ps) t w v e =
+    let p = tile top (holds h l) ps t in
+    rw (same-bits w v (h + 1 - l) l (p .split-at) e, same-numbers l ps (p .rest) w v (same-below w v (h + 1 - l) l (p .split-at) e))
+same-numbers top (address h l ∷ ps) t w v e =
+    let p = tile top (address h l) ps t in
+    rw (same-bits w v (h + 1 - l) l (p .split-at) e, same-numbers l ps (p .rest) w v (same-below w v (h + 1 - l) l (p .split-at) e))
+same-numbers top (spare h l ∷ ps) t w v e =
+    let p = tile top (spare h l) ps t in
+    same-numbers l ps (p .rest) w v (same-below w v (h + 1 - l) l (p .split-at) e)
+
+same-fits : (top : ℕ) (ps : List Part) → tiled top ps ≡ true → (w v : ℕ) → w % 2 ^ top ≡ v % 2 ^ top → fits ps w ≡ fits ps v
+unfolding fits
+same-fits top [] t w v e = refl
+same-fits top (is h l n ∷ ps) t w v e =
+    let p = tile top (is h l n) ps t in
+    rw (same-bits w v (h + 1 - l) l (p .split-at) e, same-fits l ps (p .rest) w v (same-below w v (h + 1 - l) l (p .split-at) e))
+same-fits top (holds h l ∷ ps) t w v e =
+    let p = tile top (holds h l) ps t in
+    same-fits l ps (p .rest) w v (same-below w v (h + 1 - l) l (p .split-at) e)
+same-fits top (address h l ∷ ps) t w v e =
+    let p = tile top (address h l) ps t in
+    same-fits l ps (p .rest) w v (same-below w v (h + 1 - l) l (p .split-at) e)
+same-fits top (spare h l ∷ ps) t w v e =
+    let p = tile top (spare h l) ps t in
+    same-fits l ps (p .rest) w v (same-below w v (h + 1 - l) l (p .split-at) e)
+
+-- A word that holds the numbers: it is no wider than the parts, its bits are what the parts say, and it gives the numbers back.
+pub record Held (top : ℕ) (ps : List Part) (ns : List ℕ) (w : ℕ) : Type 0 where
+  pub narrow : w < 2 ^ top
+  pub right : fits ps w ≡ true
+  pub back : numbersIn ps w ≡ take (room ps) ns
+
+-- a number f in the j bits from l up, over a word r below them that holds the other numbers
+module _ (f r j l : ℕ) {top : ℕ} (t : top ≡ j + l) {ps : List Part} {ns : List ℕ} (tiles : tiled l ps ≡ true) (hf : f < 2 ^ j) (rest : Held l ps ns r) where
+  put-narrow : f * 2 ^ l + r < 2 ^ top
+  put-narrow =
+      let a : f * 2 ^ l + r < suc f * 2 ^ l = rw suc-mul (omega (arith, rest .narrow)) in
+      let b : suc f * 2 ^ l ≤ 2 ^ j * 2 ^ l = mul-le-mul-right (2 ^ l) hf in
+      rw (t, pow-add 2 j l) (lt-of-lt-of-le a b)
+
+  put-bits : (f * 2 ^ l + r) / 2 ^ l % 2 ^ j ≡ f
+  put-bits = rw (high f l (rest .narrow)) (mod-eq-of-lt hf)
+
+  put-below : Held top ps ns (f * 2 ^ l + r)
+  put-below =
+      let e = mul-add-mod-self-right f (2 ^ l) r in
+      record {
+        narrow = put-narrow;
+        right = same-fits l ps tiles (f * 2 ^ l + r) r e ∙ rest .right;
+        back = same-numbers l ps tiles (f * 2 ^ l + r) r e ∙ rest .back;
+      }
+
+pub held : (top : ℕ) (ps : List Part) (ns : List ℕ) → tiled top ps ≡ true → fixed ps ≡ true → fit ps ns ≡ true → Held top ps ns (wordWith ps ns)
+unfolding fits numbersIn wordWith fit room fixed
+held top [] ns t x f = record { narrow = pow-pos top; right = refl; back = refl }
+held top (is h l v ∷ ps) ns t x f =
+    let p = tile top (is h l v) ps t in
+    let y = both (ltb v (2 ^ (h + 1 - l))) (fixed ps) x in
+    let rest = held l ps ns (p .rest) (y .1) f in
+    let low = ltb-true _ _ (y .0) in
+    let all = put-below v (wordWith ps ns) (h + 1 - l) l (p .split-at) (p .rest) low rest in
+    record {
+      narrow = all .narrow;
+      right = rw (put-bits v (wordWith ps ns) (h + 1 - l) l (p .split-at) (p .rest) low rest, eq-eqb v v refl) (all .right);
+      back = all .back;
+    }
+held top (holds h l ∷ ps) [] t x f = absurd (false≢true f)
+held top (holds h l ∷ ps) (m ∷ ns) t x f =
+    let p = tile top (holds h l) ps t in
+    let y = both (ltb m (2 ^ (h + 1 - l))) (fit ps ns) f in
+    let rest = held l ps ns (p .rest) x (y .1) in
+    let low = ltb-true _ _ (y .0) in
+    let all = put-below m (wordWith ps ns) (h + 1 - l) l (p .split-at) (p .rest) low rest in
+    record {
+      narrow = all .narrow;
+      right = all .right;
+      back = rw (put-bits m (wordWith ps ns) (h + 1 - l) l (p .split-at) (p .rest) low rest, all .back);
+    }
+held top (address h l ∷ ps) [] t x f = absurd (false≢true f)
+held top (address h l ∷ ps) (m ∷ ns) t x f =
+    let p = tile top (address h l) ps t in
+    let y = both (ltb m (2 ^ (h + 1)) && eqb (m % 2 ^ l) 0) (fit ps ns) f in
+    let z = both (ltb m (2 ^ (h + 1))) (eqb (m % 2 ^ l) 0) (y .0) in
+    let rest = held l ps ns (p .rest) x (y .1) in
+    let whole : m / 2 ^ l * 2 ^ l ≡ m = omega (arith, split m l, eqb-true (m % 2 ^ l) 0 (z .1)) in
+    let low = shr-lt (h + 1 - l) l (subst (λ (k : ℕ). m < 2 ^ k) (p .ends ∙ p .split-at) (ltb-true _ _ (z .0))) in
+    let all = put-below (m / 2 ^ l) (wordWith ps ns) (h + 1 - l) l (p .split-at) (p .rest) low rest in
+    subst (λ (k : ℕ). Held top (address h l ∷ ps) (m ∷ ns) (k + wordWith ps ns)) whole
+    (record {
+      narrow = all .narrow;
+      right = all .right;
+      back = rw (put-bits (m / 2 ^ l) (wordWith ps ns) (h + 1 - l) l (p .split-at) (p .rest) low rest, all .back, whole);
+    })
+held top (spare h l ∷ ps) ns t x f =
+    let p = tile top (spare h l) ps t in
+    let rest = held l ps ns (p .rest) x f in
+    let all = put-below 0 (wordWith ps ns) (h + 1 - l) l (p .split-at) (p .rest) (pow-pos (h + 1 - l)) rest in
+    let none : 0 * 2 ^ l + wordWith ps ns ≡ wordWith ps ns = omega arith in
+    subst (Held top (spare h l ∷ ps) ns) none (record { narrow = all .narrow; right = all .right; back = all .back })
+
+-- A word whose bits are what the parts say, put together again from its numbers, whatever follows them.
+pub again : (top : ℕ) (ps : List Part) → tiled top ps ≡ true → whole ps ≡ true → (w : ℕ) (ns : List ℕ) → fits ps w ≡ true → wordWith ps (numbersIn ps w ++ ns) ≡ w % 2 ^ top
+unfolding fits numbersIn wordWith whole tiled
+again top [] t x w ns f = sym (ap (λ (k : ℕ). w % 2 ^ k) (eqb-true top 0 t) ∙ mod-one w)
+again top (is h l v ∷ ps) t x w ns f =
+    let p = tile top (is h l v) ps t in
+    let y = both (eqb (bits h l w) v) (fits ps w) f in
+    rw (p .split-at, mod-pow-add w (h + 1 - l) l, again l ps (p .rest) x w ns (y .1), eqb-true (bits h l w) v (y .0))
+again top (holds h l ∷ ps) t x w ns f =
+    let p = tile top (holds h l) ps t in
+    rw (p .split-at, mod-pow-add w (h + 1 - l) l, again l ps (p .rest) x w ns f)
+again top (address h l ∷ ps) t x w ns f =
+    let p = tile top (address h l) ps t in
+    rw (p .split-at, mod-pow-add w (h + 1 - l) l, again l ps (p .rest) x w ns f)
+again top (spare h l ∷ ps) t x w ns f = absurd (false≢true x)
+
+-- a word holds as many numbers as its parts have room for
+pub as-many : (ps : List Part) (w : ℕ) → length (numbersIn ps w) ≡ room ps
+unfolding numbersIn room
+as-many [] w = refl
+as-many (is h l v ∷ ps) w = as-many ps w
+as-many (holds h l ∷ ps) w = ap suc (as-many ps w)
+as-many (address h l ∷ ps) w = ap suc (as-many ps w)
+as-many (spare h l ∷ ps) w = as-many ps w
+
+-- the numbers in a word fit its parts, whatever follows them
+pub within : (top : ℕ) (ps qs : List Part) (ns : List ℕ) → tiled top ps ≡ true → (w : ℕ) → fit (ps ++ qs) (numbersIn ps w ++ ns) ≡ fit qs ns
+unfolding numbersIn fit
+within top [] qs ns t w = refl
+within top (is h l v ∷ ps) qs ns t w = within l ps qs ns (tile top (is h l v) ps t .rest) w
+within top (holds h l ∷ ps) qs ns t w =
+    rw (lt-ltb (bits h l w) (2 ^ (h + 1 - l)) (mod-lt (w / 2 ^ l) (pow-pos (h + 1 - l)))) (within l ps qs ns (tile top (holds h l) ps t .rest) w)
+within top (address h l ∷ ps) qs ns t w =
+    let p = tile top (address h l) ps t in
+    let low : bits h l w * 2 ^ l < 2 ^ (h + 1) = subst (λ (k : ℕ). bits h l w * 2 ^ l < 2 ^ k) (sym (p .ends ∙ p .split-at)) (shl-lt (h + 1 - l) l (mod-lt (w / 2 ^ l) (pow-pos (h + 1 - l)))) in
+    rw (lt-ltb (bits h l w * 2 ^ l) (2 ^ (h + 1)) low, eq-eqb (bits h l w * 2 ^ l % 2 ^ l) 0 (mul-mod-left (bits h l w) (2 ^ l))) (within l ps qs ns (p .rest) w)
+within top (spare h l ∷ ps) qs ns t w = within l ps qs ns (tile top (spare h l) ps t .rest) w
+
+-- numbers that fit parts in a row fit the first of them, and the numbers left fit the others
+pub fit-apart : (ps qs : List Part) (ns : List ℕ) → fit (ps ++ qs) ns ≡ true → (fit ps ns ≡ true) × (fit qs (drop (room ps) ns) ≡ true)
+unfolding fit room
+fit-apart [] qs ns f = (refl, f)
+fit-apart (is h l v ∷ ps) qs ns f = fit-apart ps qs ns f
+fit-apart (holds h l ∷ ps) qs [] f = absurd (false≢true f)
+fit-apart (holds h l ∷ ps) qs (m ∷ ns) f =
+    let y = both (ltb m (2 ^ (h + 1 - l))) (fit (ps ++ qs) ns) f in
+    let z = fit-apart ps qs ns (y .1) in
+    (rw (y .0) (z .0), z .1)
+fit-apart (address h l ∷ ps) qs [] f = absurd (false≢true f)
+fit-apart (address h l ∷ ps) qs (m ∷ ns) f =
+    let y = both (ltb m (2 ^ (h + 1)) && eqb (m % 2 ^ l) 0) (fit (ps ++ qs) ns) f in
+    let z = fit-apart ps qs ns (y .1) in
+    (rw (y .0) (z .0), z .1)
+fit-apart (spare h l ∷ ps) qs ns f = fit-apart ps qs ns f

@@ -1,0 +1,160 @@
+-- The definitions' tests say what the promises' plain conditions say. Assumes nothing.
+use Prim.Native.Nat.{ℕ, _+_, _-_, _%_, _^_, _≤_, _<_}
+use mathlib.Core.Path.{_≡_, refl}
+use mathlib.Core.Bool.{Bool, true, false, not, _&&_, _||_, false≢true}
+use mathlib.Core.List.{List, [], _∷_, _++_}
+use mathlib.Core.Logic.{_↔_}
+use native.Mathlib.Omega.{arith}
+use lib.Dec.{eqb, leb, ltb}
+use lib.ListN.{length}
+use borrow.Author.Tests.{lt-ltb, le-leb, eq-eqb, ltb-true, leb-true, eqb-true}
+use Rattle.word.specs.First.{Case, Plain}
+use Rattle.word.specs.Setting.{settingCases, sizeCases}
+use Rattle.word.specs.Form.{Part, is, holds, address, spare, Where, either, only, nowhere, inMode, Form, usable, increasing, nonIncreasing, sliConditional, returning, long, oldJump, jump, call, everythingElse}
+use Rattle.word.specs.Reading.{form, values}
+use Rattle.word.specs.Writing.{fit, nextWord, wordsOf, writeCases}
+use Rattle.word.specs.Promises.{Within, Available, size, settingPlain, sizePlain, writePlain}
+use Rattle.word.specs.declared.setting.Setting.{Setting}
+use Rattle.word.specs.declared.reading.Reading.{Reading}
+use Rattle.word.specs.declared.reading.Reading.the-variants.{Increasing, NonIncreasing, Sli, Return, Long, OldJump, Jump, Call, Reserved, Refused}
+use Rattle.word.proofs.First.{Agree}
+use Rattle.word.proofs.Tests.{both, not-plain, or-plain, and-plain, less-plain, equal-plain}
+
+-- numbers that fit parts, in plain terms
+abbrev Fit : List Part → List ℕ → Type 0
+Fit [] ns = Unit {0}
+Fit (is hi lo v ∷ ps) ns = Fit ps ns
+Fit (holds hi lo ∷ ps) [] = ⊥
+Fit (holds hi lo ∷ ps) (n ∷ ns) = (n < 2 ^ (hi + 1 - lo)) × Fit ps ns
+Fit (address hi lo ∷ ps) [] = ⊥
+Fit (address hi lo ∷ ps) (n ∷ ns) = (n < 2 ^ (hi + 1)) × (n % 2 ^ lo ≡ 0) × Fit ps ns
+Fit (spare hi lo ∷ ps) ns = Fit ps ns
+
+fit-plain : (ps : List Part) (ns : List ℕ) → fit ps ns ≡ true ↔ Fit ps ns
+unfolding fit
+fit-plain [] ns = (λ e. tt, λ f. refl)
+fit-plain (is hi lo v ∷ ps) ns = fit-plain ps ns
+fit-plain (holds hi lo ∷ ps) [] = (λ e. false≢true e, λ f. absurd f)
+fit-plain (holds hi lo ∷ ps) (n ∷ ns) =
+    let ih = fit-plain ps ns in (
+      λ e. let y = both (ltb n (2 ^ (hi + 1 - lo))) (fit ps ns) e in (ltb-true _ _ (y .0), ih .0 (y .1)),
+      λ f. rw (lt-ltb n (2 ^ (hi + 1 - lo)) (f .0)) (ih .1 (f .1)),
+    )
+fit-plain (address hi lo ∷ ps) [] = (λ e. false≢true e, λ f. absurd f)
+fit-plain (address hi lo ∷ ps) (n ∷ ns) =
+    let ih = fit-plain ps ns in (
+      λ e.
+          let y = both (ltb n (2 ^ (hi + 1)) && eqb (n % 2 ^ lo) 0) (fit ps ns) e in
+          let z = both (ltb n (2 ^ (hi + 1))) (eqb (n % 2 ^ lo) 0) (y .0) in
+          (ltb-true _ _ (z .0), eqb-true _ _ (z .1), ih .0 (y .1)),
+      λ f. rw (lt-ltb n (2 ^ (hi + 1)) (f .0), eq-eqb (n % 2 ^ lo) 0 (f .1)) (ih .1 (f .2)),
+    )
+fit-plain (spare hi lo ∷ ps) ns = fit-plain ps ns
+
+-- FIELD's test
+within-plain : (r : Reading) → Fit (form r .word ++ form r .next) (values r) ↔ Within r
+unfolding form values increasing nonIncreasing sliConditional returning long oldJump jump call everythingElse
+within-plain (Increasing c s m) = (λ f. (f .0, f .1 .0, f .1 .1 .0, f .1 .1 .1), λ w. (w .0, (w .1, (w .2, w .3, tt))))
+within-plain (NonIncreasing c s m) = (λ f. (f .0, f .1 .0, f .1 .1 .0, f .1 .1 .1), λ w. (w .0, (w .1, (w .2, w .3, tt))))
+within-plain (Sli k) = (λ f. f .0, λ w. (w, tt))
+within-plain Return = (λ f. tt, λ w. tt)
+within-plain (Long s m c) = (λ f. (f .0, f .1 .0, f .1 .1, f .1 .2 .0), λ w. (w .0, (w .1, w .2, (w .3, tt))))
+within-plain (OldJump t) = (λ f. (f .0, f .1), λ w. (w .0, w .1, tt))
+within-plain (Jump t) = (λ f. (f .0, f .1), λ w. (w .0, w .1, tt))
+within-plain (Call t) = (λ f. (f .0, f .1), λ w. (w .0, w .1, tt))
+within-plain Reserved = (λ f. tt, λ w. tt)
+within-plain (Refused r) = (λ f. tt, λ w. tt)
+
+pub field-plain : (r : Reading) → fit (form r .word ++ form r .next) (values r) ≡ true ↔ Within r
+field-plain r =
+    let p = fit-plain (form r .word ++ form r .next) (values r) in
+    let q = within-plain r in
+    (λ e. q .0 (p .0 e), λ w. p .1 (q .1 w))
+
+-- a form that may be used at a setting, in plain terms
+abbrev InMode : Where → ℕ → Type 0
+InMode either mode = Unit {0}
+InMode (only m) mode = mode ≡ m
+InMode nowhere mode = ⊥
+
+abbrev Enabled : Bool → Bool → Type 0
+Enabled true on = on ≡ true
+Enabled false on = Unit {0}
+
+mode-plain : (x : Where) (mode : ℕ) → inMode x mode ≡ true ↔ InMode x mode
+unfolding inMode
+mode-plain either mode = (λ e. tt, λ p. refl)
+mode-plain (only m) mode = (λ e. eqb-true _ _ e, λ p. eq-eqb _ _ p)
+mode-plain nowhere mode = (λ e. false≢true e, λ p. absurd p)
+
+enabled-plain : (b on : Bool) → (not b || on) ≡ true ↔ Enabled b on
+enabled-plain true on = (λ e. e, λ p. p)
+enabled-plain false on = (λ e. tt, λ p. refl)
+
+usable-plain : (s : Setting) (f : Form) → usable s f ≡ true ↔ (f .level ≤ s .level .number) × InMode (f .mode) (s .mode .number) × Enabled (f .sli) (s .sli)
+unfolding usable
+usable-plain s f = (
+  λ e.
+      let y = both (leb (f .level) (s .level .number) && inMode (f .mode) (s .mode .number)) (not (f .sli) || s .sli) e in
+      let z = both (leb (f .level) (s .level .number)) (inMode (f .mode) (s .mode .number)) (y .0) in
+      (leb-true _ _ (z .0), mode-plain (f .mode) (s .mode .number) .0 (z .1), enabled-plain (f .sli) (s .sli) .0 (y .1)),
+  λ p. rw (le-leb (f .level) (s .level .number) (p .0), mode-plain (f .mode) (s .mode .number) .1 (p .1), enabled-plain (f .sli) (s .sli) .1 (p .2)),
+)
+
+-- FORM's test
+available-plain : (s : Setting) (r : Reading) → (form r .level ≤ s .level .number) × InMode (form r .mode) (s .mode .number) × Enabled (form r .sli) (s .sli) ↔ Available s r
+unfolding form increasing nonIncreasing sliConditional returning long oldJump jump call everythingElse
+available-plain s (Increasing c b m) = (λ p. tt, λ a. (omega arith, tt, tt))
+available-plain s (NonIncreasing c b m) = (λ p. p .0, λ a. (a, tt, tt))
+available-plain s (Sli k) = (λ p. (p .0, p .2), λ a. (a .0, tt, a .1))
+available-plain s Return = (λ p. (p .0, p .1), λ a. (a .0, a .1, tt))
+available-plain s (Long b m c) = (λ p. p .1, λ a. (omega arith, a, tt))
+available-plain s (OldJump t) = (λ p. p .1, λ a. (omega arith, a, tt))
+available-plain s (Jump t) = (λ p. (p .0, p .1), λ a. (a .0, a .1, tt))
+available-plain s (Call t) = (λ p. (p .0, p .1), λ a. (a .0, a .1, tt))
+available-plain s Reserved = (λ p. p .1, λ a. absurd a)
+available-plain s (Refused r) = (λ p. p .1, λ a. absurd a)
+
+pub form-plain : (s : Setting) (r : Reading) → usable s (form r) ≡ true ↔ Available s r
+form-plain s r =
+    let p = usable-plain s (form r) in
+    let q = available-plain s r in
+    (λ e. q .0 (p .0 e), λ a. p .1 (q .1 a))
+
+-- ROOM's test
+pub size-is : (r : Reading) → length (wordsOf r) ≡ size r
+unfolding wordsOf nextWord form increasing nonIncreasing sliConditional returning long oldJump jump call everythingElse
+size-is (Increasing c s m) = refl
+size-is (NonIncreasing c s m) = refl
+size-is (Sli k) = refl
+size-is Return = refl
+size-is (Long s m c) = refl
+size-is (OldJump t) = refl
+size-is (Jump t) = refl
+size-is (Call t) = refl
+size-is Reserved = refl
+size-is (Refused r) = refl
+
+-- LEVEL, MODE and SLI, with what comes after them
+pub setting-agree : (s : Setting) (more : List Case) (plain : List Plain) → Agree more plain → Agree (settingCases s ++ more) (settingPlain s ++ plain)
+setting-agree s more plain rest =
+    let l = s .level .number in
+    let m = s .mode .number in (
+      refl,
+      less-plain 5 l,
+      (
+        refl,
+        or-plain (ltb 1 m) (eqb m 1 && ltb l 4) (less-plain 1 m) (and-plain (eqb m 1) (ltb l 4) (equal-plain m 1) (less-plain l 4)),
+        (refl, and-plain (s .sli) (ltb l 3) (λ e. e, λ e. e) (less-plain l 3), rest),
+      ),
+    )
+
+pub size-agree : (ws : List ℕ) → Agree (sizeCases (length ws)) (sizePlain ws)
+size-agree ws = (refl, less-plain 1048576 (length ws), tt)
+
+pub write-agree : (s : Setting) (r : Reading) (out : List ℕ) → Agree (writeCases s r (length out)) (writePlain s r out)
+write-agree s r out = (
+  refl,
+  not-plain (fit (form r .word ++ form r .next) (values r)) (field-plain r),
+  (refl, not-plain (usable s (form r)) (form-plain s r), (refl, rw size-is (less-plain (length out) (size r)), tt)),
+)

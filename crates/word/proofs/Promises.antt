@@ -1,0 +1,258 @@
+-- The promises about words, each under the name of its statement. Assumes nothing.
+use Prim.Native.Nat.{ℕ, zero, suc, _+_, _%_, _^_, _≤_, _<_}
+use mathlib.Core.Path.{_≡_, refl, sym, ap, subst, _∙_}
+use mathlib.Core.Bool.{Bool, true, false, not}
+use mathlib.Core.List.{List, [], _∷_, _++_}
+use mathlib.Core.Option.{Option, none, some}
+use native.Mathlib.Nat.{zero-add, div-one}
+use native.Mathlib.Omega.{arith}
+use lib.Dec.{eqb, ltb}
+use lib.ListN.{length, getD, drop}
+use lib.Seq.{sets, sets-eq, length-sets, drop-at}
+use borrow.Author.Tests.{not-false, ltb-false}
+use Rattle.word.specs.First.{choose, first}
+use Rattle.word.specs.Setting.{refusedOr, checkOf, settingCases, sizeCases}
+use Rattle.word.specs.Form.{Part, Form, fits, numbersIn, usable, inMode, increasing, nonIncreasing, sliConditional, returning, long, oldJump, jump, call, everythingElse, forms, formIn, formOf}
+use Rattle.word.specs.Reading.{number, form, values, commandIn, readingOf, readOf, readAtOf}
+use Rattle.word.specs.Writing.{fit, wordWith, nextWord, wordsOf, writeCases, writeOf, outAfter}
+use Rattle.word.specs.Answers.{checkRefusal, readingRefusal, placeRefusal, writtenRefusal, writtenValues}
+use Rattle.word.specs.Contracts.{Writes}
+use Rattle.word.specs.Numbers.{Numbers}
+use Rattle.word.specs.Promises.{settingPlain, sizePlain, writePlain, Within, Available, size, Refused, One, ReadBack, WriteBack, Widths, Specials, OneForm}
+use Rattle.word.specs.declared.setting.Setting.{Setting}
+use Rattle.word.specs.declared.setting.Check.the-variants as check
+use Rattle.word.specs.declared.reading.Reading.{Reading}
+use Rattle.word.specs.declared.reading.Reading.the-variants.{Increasing, NonIncreasing, Sli, Return, Long, OldJump, Jump, Call, Reserved, Refused as Refusing}
+use Rattle.word.specs.declared.reading.Place.the-variants as place
+use Rattle.word.specs.declared.writing.Written.{Written}
+use Rattle.word.specs.declared.writing.Written.the-variants as written
+use Rattle.word.proofs.First.{by-test, choose-true, first-none, append-none}
+use Rattle.word.proofs.Settings.{accepted, told-first, told-plain, none-fine}
+use Rattle.word.proofs.Forms.{In, here, there, by-form, the-form}
+use Rattle.word.proofs.RoundTrip.{read-by, left, next-is, form-back, command-back, numbers-fit, words-back}
+use Rattle.word.proofs.Plainly.{field-plain, form-plain, size-is, setting-agree, size-agree, write-agree}
+use Rattle.word.proofs.Writer.{by-words}
+use Rattle.word.proofs.Methods.{specials-plain}
+
+-- a reading that is not refused: a command, or reserved
+not-refused : (r : Reading) → number r < 9 → readingRefusal r ≡ none
+unfolding number readingRefusal
+not-refused (Increasing c s m) h = refl
+not-refused (NonIncreasing c s m) h = refl
+not-refused (Sli k) h = refl
+not-refused Return h = refl
+not-refused (Long s m c) h = refl
+not-refused (OldJump t) h = refl
+not-refused (Jump t) h = refl
+not-refused (Call t) h = refl
+not-refused Reserved h = refl
+not-refused (Refusing r) h = absurd (omega arith)
+
+-- to show something of a reading, show it of each command that a form of the table reads, and of 'reserved'
+by-reading : (P : Reading → Type 0) (s : Setting) (w n : ℕ)
+    → ((f : Form) → In f forms → fits (f .word) w ≡ true → P (commandIn f w n))
+    → P Reserved
+    → P (readingOf s w n)
+unfolding readingOf commandIn everythingElse
+by-reading P s w n k reserved = by-test P (λ t. by-form (λ f. P (commandIn f w n)) w k reserved) (λ t. reserved)
+
+plain : (s : Setting) (w n : ℕ) → readingRefusal (readingOf s w n) ≡ none
+unfolding readingRefusal
+plain s w n = by-reading (λ r. readingRefusal r ≡ none) s w n (λ f i e. not-refused (commandIn f w n) (read-by w n i .command)) refl
+
+found : (s : Setting) (ws : List ℕ) (p : ℕ) → placeRefusal (choose (ltb p (length ws)) (place.Word (readingOf s (getD ws p 0) (getD ws (p + 1) 0))) place.Past) ≡ none
+unfolding placeRefusal
+found s ws p = by-test (λ a. placeRefusal a ≡ none) (λ t. refl) (λ t. refl)
+
+-- "No refusal writes lent memory"
+untouched : (a : Written) (r : Reading) (out exit : List ℕ) (n : ℕ) → exit ≡ outAfter a r out → writtenRefusal a ≡ some n → exit ≡ out
+unfolding outAfter writtenRefusal
+untouched (written.Words k) r out exit n e h = let z : _≡_ {A = ℕ} 0 1 = cc in absurd (omega arith)
+untouched (written.Refused x) r out exit n e h = e
+
+pub refused : Refused
+unfolding checkOf readOf readAtOf writeOf checkRefusal readingRefusal placeRefusal writtenRefusal
+refused =
+    record {
+      check = λ s a c n. told-plain check.Refused checkRefusal (λ x. refl) (settingCases s) (settingPlain s) check.Fine a (setting-agree s [] [] tt) refl c n;
+      read = λ s w next a c n. told-plain Refusing readingRefusal (λ x. refl) (settingCases s) (settingPlain s) (readingOf s w next) a (setting-agree s [] [] tt) (plain s w next) c n;
+      read-at = λ s ws p a c n. told-plain place.Refused placeRefusal (λ x. refl) (settingCases s ++ sizeCases (length ws)) (settingPlain s ++ sizePlain ws) _ a (setting-agree s (sizeCases (length ws)) (sizePlain ws) (size-agree ws)) (found s ws p) c n;
+      write = λ s r out a exit c n. told-plain written.Refused writtenRefusal (λ x. refl) (settingCases s ++ writeCases s r (length out)) (settingPlain s ++ writePlain s r out) _ a (setting-agree s (writeCases s r (length out)) (writePlain s r out) (write-agree s r out)) refl (c .answer) n;
+      unwritten = λ s r out a exit c n e. untouched a r out exit n (c .memory) e;
+    }
+
+pub one : One
+one =
+    record {
+      check = λ s a b p q. p ∙ sym q;
+      read = λ s w next a b p q. p ∙ sym q;
+      read-at = λ s ws i a b p q. p ∙ sym q;
+      write = λ s r out a b x y p q.
+          let e = p .answer ∙ sym (q .answer) in
+          (e, p .memory ∙ ap (λ (z : Written). outAfter z r out) e ∙ sym (q .memory));
+      present = λ level m a b p q. p ∙ sym q;
+    }
+
+pub numbers : Numbers
+unfolding readOf refusedOr first choose readingOf commandIn formIn forms fits numbersIn usable inMode increasing nonIncreasing sliConditional returning long oldJump jump call everythingElse
+numbers next = rw (div-one next)
+
+-- a refusal has no number to be held within a width
+kept : (o : Option ℕ) (r : Reading) → Within r → Within (refusedOr Refusing o r)
+unfolding refusedOr
+kept none r h = h
+kept (some n) r h = tt
+
+pub widths : Widths
+unfolding readOf
+widths s w next r e =
+    subst Within (sym e)
+    (kept (first (settingCases s)) (readingOf s w next)
+    (by-reading Within s w next (λ f i t. field-plain (commandIn f w next) .0 (numbers-fit f i w next)) tt))
+
+-- what an accepted command has passed
+pub record Passed (s : Setting) (r : Reading) (out : List ℕ) (a : Written) : Type 0 where
+  pub setting : first (settingCases s) ≡ none
+  pub fields : fit (form r .word ++ form r .next) (values r) ≡ true
+  pub there : usable s (form r) ≡ true
+  pub room : length (wordsOf r) ≤ length out
+  pub words : a ≡ written.Words (length (wordsOf r))
+
+passed : (s : Setting) (r : Reading) (out : List ℕ) (a : Written) → a ≡ writeOf s r (length out) → writtenRefusal a ≡ none → Passed s r out a
+unfolding writeOf writtenRefusal
+passed s r out a e h =
+    let all : first (settingCases s ++ writeCases s r (length out)) ≡ none = sym (told-first written.Refused writtenRefusal (λ x. refl) (settingCases s ++ writeCases s r (length out)) _ a refl e) ∙ h in
+    let two = append-none (settingCases s) (writeCases s r (length out)) all in
+    let field = first-none _ _ (two .1) in
+    let form′ = first-none _ _ (field .1) in
+    let room = first-none _ _ (form′ .1) in
+    record {
+      setting = two .0;
+      fields = not-false _ (field .0);
+      there = not-false _ (form′ .0);
+      room = ltb-false _ _ (room .0);
+      words = e ∙ accepted written.Refused _ all;
+    }
+
+-- a command that may be used somewhere is one of the eight
+is-command : (s : Setting) (r : Reading) → Available s r → number r < 9
+unfolding number
+is-command s (Increasing c b m) h = omega arith
+is-command s (NonIncreasing c b m) h = omega arith
+is-command s (Sli k) h = omega arith
+is-command s Return h = omega arith
+is-command s (Long b m c) h = omega arith
+is-command s (OldJump t) h = omega arith
+is-command s (Jump t) h = omega arith
+is-command s (Call t) h = omega arith
+is-command s Reserved h = absurd h
+is-command s (Refusing r) h = absurd h
+
+-- what stands in the output: the words, and then what stood there
+written-over : (r : Reading) (out : List ℕ) → length (wordsOf r) ≤ length out → sets out 0 (wordsOf r) ≡ wordsOf r ++ drop (length (wordsOf r)) out
+written-over r out h = sets-eq (wordsOf r) out 0 (omega arith) ∙ ap (λ (k : ℕ). wordsOf r ++ drop k out) (zero-add (length (wordsOf r)))
+
+-- the first word, and the second where there is one
+word-0 : (r : Reading) (tail : List ℕ) → getD (wordsOf r ++ tail) 0 0 ≡ wordWith (form r .word) (values r)
+unfolding wordsOf
+word-0 r tail = refl
+
+word-1 : (ps : List Part) (w : ℕ) (ns tail : List ℕ) → suc (length (nextWord ps ns)) ≡ 2 → getD ((w ∷ nextWord ps ns) ++ tail) 1 0 ≡ wordWith ps ns
+unfolding nextWord
+word-1 [] w ns tail h = absurd (omega arith)
+word-1 (p ∷ ps) w ns tail h = refl
+
+-- the reading of a word at a setting that is not refused
+read-plain : (s : Setting) (w n : ℕ) → first (settingCases s) ≡ none → readOf s w n ≡ readingOf s w n
+unfolding readOf
+read-plain s w n e = accepted Refusing (readingOf s w n) e
+
+read-usable : (s : Setting) (w n : ℕ) (f : Form) → formOf w ≡ f → usable s f ≡ true → readingOf s w n ≡ commandIn f w n
+unfolding readingOf
+read-usable s w n f e u = choose-true (ap (usable s) e ∙ u) _ _ ∙ ap (λ (g : Form). commandIn g w n) e
+
+pub read-back : ReadBack
+unfolding outAfter writtenValues wordsOf
+read-back s r out a exit c h =
+    let p = passed s r out a (c .answer) h in
+    let k = is-command s r (form-plain s r .0 (p .there)) in
+    let k-words = length (wordsOf r) in
+    let front : exit ≡ sets out 0 (wordsOf r) = c .memory ∙ ap (λ (z : Written). outAfter z r out) (p .words) in
+    let over : exit ≡ wordsOf r ++ drop k-words out = front ∙ written-over r out (p .room) in
+    record {
+      count = ap writtenValues (p .words) ∙ ap (λ (n : ℕ). n ∷ []) (size-is r);
+      same = λ next second x e.
+          let w = wordWith (form r .word) (values r) in
+          let w-0 : getD exit 0 0 ≡ w = ap (λ (l : List ℕ). getD l 0 0) over ∙ word-0 r (drop k-words out) in
+          let n-1 : k-words ≡ 2 → next ≡ wordWith (form r .next) (left r k (p .fields)) = λ t. second (sym (size-is r) ∙ t) ∙ ap (λ (l : List ℕ). getD l 1 0) over ∙ word-1 (form r .next) w (left r k (p .fields)) (drop k-words out) t in
+          e ∙ ap (λ (v : ℕ). readOf s v next) w-0
+          ∙ read-plain s w next (p .setting)
+          ∙ read-usable s w next (form r) (form-back r k (p .fields)) (p .there)
+          ∙ command-back r k (p .fields) next (next-is r k (p .fields) next n-1);
+      length-stays = ap length front ∙ length-sets out 0 (wordsOf r);
+      tail-stays = subst (λ (n : ℕ). drop n exit ≡ drop n out) (size-is r) (ap (drop k-words) over ∙ drop-at (wordsOf r) (drop k-words out) k-words refl);
+    }
+
+-- what a word that reads as a command has
+pub record Commands (s : Setting) (w n : ℕ) (r : Reading) : Type 0 where
+  pub setting : first (settingCases s) ≡ none
+  pub there : usable s (formOf w) ≡ true
+  pub member : In (formOf w) forms
+  pub bits-fit : fits (formOf w .word) w ≡ true
+  pub is : r ≡ commandIn (formOf w) w n
+
+of-table : (w n : ℕ) → number (commandIn (formOf w) w n) ≤ 8 → (In (formOf w) forms) × (fits (formOf w .word) w ≡ true)
+unfolding commandIn everythingElse number
+of-table w n = by-form (λ f. number (commandIn f w n) ≤ 8 → (In f forms) × (fits (f .word) w ≡ true)) w (λ f i t h. (i, t)) (λ h. absurd (omega arith))
+
+commands : (s : Setting) (w n : ℕ) (r : Reading) → r ≡ readOf s w n → number r ≤ 8 → Commands s w n r
+unfolding readOf readingOf refusedOr choose number
+commands s w n r e h = at-setting (first (settingCases s)) refl e
+  where
+    at-form : (u : Bool) → usable s (formOf w) ≡ u → first (settingCases s) ≡ none → r ≡ choose u (commandIn (formOf w) w n) Reserved → Commands s w n r
+    at-form true u d e =
+        let t = of-table w n (subst (λ (x : Reading). number x ≤ 8) e h) in
+        record { setting = d; there = u; member = t .0; bits-fit = t .1; is = e }
+    at-form false u d e = absurd (let z : 9 ≤ 8 = subst (λ (x : Reading). number x ≤ 8) e h in omega arith)
+
+    at-setting : (o : Option ℕ) → first (settingCases s) ≡ o → r ≡ refusedOr Refusing o (choose (usable s (formOf w)) (commandIn (formOf w) w n) Reserved) → Commands s w n r
+    at-setting none d e = at-form (usable s (formOf w)) refl d e
+    at-setting (some m) d e = absurd (let z : 10 ≤ 8 = subst (λ (x : Reading). number x ≤ 8) e h in omega arith)
+
+-- such a word is accepted by the writer, and its words are those that were read
+back-again : (s : Setting) (w n : ℕ) (out : List ℕ) → w < 2 ^ 32 → (f : Form) → In f forms → fits (f .word) w ≡ true → usable s f ≡ true → first (settingCases s) ≡ none
+    → (a : Written) (exit : List ℕ) → size (commandIn f w n) ≤ length out → Writes s (commandIn f w n) out a exit
+    → (writtenRefusal a ≡ none) × (exit ≡ (w ∷ choose (eqb (number (commandIn f w n)) 5) (n % 2 ^ 24 ∷ []) []) ++ drop (size (commandIn f w n)) out)
+unfolding outAfter writtenRefusal
+back-again s w n out h f i t u d a exit space c =
+    let r = commandIn f w n in
+    let room : length (wordsOf r) ≤ length out = rw size-is space in
+    let same : form r ≡ f = read-by w n i .same in
+    let words : a ≡ written.Words (length (wordsOf r)) = c .answer ∙ by-words s r (length out) (none-fine s d) (numbers-fit f i w n) (ap (usable s) same ∙ u) refl room in (
+      ap writtenRefusal words,
+      c .memory ∙ ap (λ (z : Written). outAfter z r out) words ∙ written-over r out room
+          ∙ rw size-is (ap (λ (l : List ℕ). l ++ drop (size r) out) (words-back f i w n h t)),
+    )
+
+pub write-back : WriteBack
+write-back s w next r h e k out a exit space c =
+    let q = commands s w next r e k in
+    subst
+    (λ (x : Reading). size x ≤ length out → Writes s x out a exit → (writtenRefusal a ≡ none) × (exit ≡ (w ∷ choose (eqb (number x) 5) (next % 2 ^ 24 ∷ []) []) ++ drop (size x) out))
+    (sym (q .is))
+    (back-again s w next out h (formOf w) (q .member) (q .bits-fit) (q .there) (q .setting) a exit) space c
+
+pub specials : Specials
+specials level m a e =
+    let p = specials-plain m (level .number) in
+    (λ h. p .0 (sym e ∙ h), λ x. e ∙ p .1 x)
+
+-- the form at an index of the table is in it
+at-index : (fs : List Form) (i : ℕ) → i < length fs → In (getD fs i everythingElse) fs
+at-index [] i h = absurd (omega arith)
+at-index (f ∷ fs) zero h = here
+at-index (f ∷ fs) (suc i) h = there (at-index fs i (omega arith))
+
+pub one-form : OneForm
+unfolding forms
+one-form w i j hi hj e g = sym (the-form _ (at-index forms i hi) w e) ∙ the-form _ (at-index forms j hj) w g

@@ -1,0 +1,87 @@
+-- The writer's answer and output, by the first test that decides them. Assumes nothing.
+use Prim.Native.Nat.{ℕ, _≤_, _<_}
+use mathlib.Core.Path.{_≡_, refl, sym, ap, _∙_}
+use mathlib.Core.Bool.{true, false, not}
+use mathlib.Core.List.{List, [], _∷_, _++_}
+use native.Mathlib.Omega.{arith}
+use lib.Dec.{ltb}
+use lib.ListN.{length}
+use lib.Seq.{sets}
+use types.Run.{OneOf, miss as missed}
+use denote.Enum.Declared.{tagOf}
+use borrow.Author.Tests.{lt-ltb, le-ltb}
+use Rattle.word.specs.First.{_when_, first}
+use Rattle.word.specs.Setting.{checkOf, refusedOr, FIELD, FORM, ROOM}
+use Rattle.word.specs.Form.{increasing, nonIncreasing, sliConditional, returning, long, oldJump, jump, call, everythingElse, usable}
+use Rattle.word.specs.Reading.{form, values}
+use Rattle.word.specs.Writing.{fit, wordWith, room, nextWord, wordsOf, writeCases, writeOf, outAfter}
+use Rattle.word.specs.Contracts.{Writes}
+use Rattle.word.specs.declared.setting.Refusal.{Refusal}
+use Rattle.word.specs.declared.setting.Setting.{Setting}
+use Rattle.word.specs.declared.setting.Check.the-variants as check
+use Rattle.word.specs.declared.reading.Reading.{Reading}
+use Rattle.word.specs.declared.reading.Reading.the-variants.{Increasing, NonIncreasing, Sli, Return, Long, OldJump, Jump, Call, Reserved, Refused}
+use Rattle.word.specs.declared.writing.Written.the-variants as written
+use Rattle.word.proofs.reading.Reading.{the-type}
+use Rattle.word.proofs.Settings.{refused-by, passed-by, hit, miss, no-more}
+
+-- the tags of every reading that is no long form: what a `let .. else` on `Long` leaves
+abbrev others : List ℕ
+others = 0 ∷ 1 ∷ 2 ∷ 3 ∷ 5 ∷ 6 ∷ 7 ∷ 8 ∷ 9 ∷ []
+
+-- a command that is no long form has one word, and a long form's second is its count
+pub one-word : (r : Reading) → OneOf others (tagOf the-type r) → wordsOf r ≡ wordWith (form r .word) (values r) ∷ []
+unfolding wordsOf nextWord form increasing nonIncreasing sliConditional returning oldJump jump call everythingElse
+one-word (Increasing c s m) h = refl
+one-word (NonIncreasing c s m) h = refl
+one-word (Sli k) h = refl
+one-word Return h = refl
+one-word (Long s m c) h = absurd (missed others 4 tt h)
+one-word (OldJump t) h = refl
+one-word (Jump t) h = refl
+one-word (Call t) h = refl
+one-word Reserved h = refl
+one-word (Refused r) h = refl
+
+pub two-words : {r : Reading} {s m c : ℕ} → r ≡ Long s m c → wordsOf r ≡ wordWith (form (Long s m c) .word) (values (Long s m c)) ∷ c ∷ []
+unfolding wordsOf nextWord form values long wordWith room
+two-words {r} {s} {m} {c} e = rw e (ap (λ (x : ℕ). wordWith (long .word) (s ∷ m ∷ c ∷ []) ∷ x ∷ []) (omega arith))
+
+-- the answer, by the first test that decides it
+module _ (s : Setting) (r : Reading) (space : ℕ) where
+  pub by-setting : (x : Refusal) → checkOf s ≡ check.Refused x → writeOf s r space ≡ written.Refused x
+  unfolding writeOf
+  by-setting x e = refused-by s (writeCases s r space) written.Refused _ x e
+
+  module _ (fine : checkOf s ≡ check.Fine) where
+    pub by-field : fit (form r .word ++ form r .next) (values r) ≡ false → writeOf s r space ≡ written.Refused (record { number = FIELD })
+    unfolding writeOf
+    by-field f = passed-by s (writeCases s r space) written.Refused _ fine ∙ hit FIELD _ written.Refused _ (ap not f)
+
+    module _ (fields : fit (form r .word ++ form r .next) (values r) ≡ true) where
+      pub by-form : usable s (form r) ≡ false → writeOf s r space ≡ written.Refused (record { number = FORM })
+      unfolding writeOf
+      by-form u = passed-by s (writeCases s r space) written.Refused _ fine ∙ miss FIELD _ written.Refused _ (ap not fields) ∙ hit FORM _ written.Refused _ (ap not u)
+
+      module _ (there : usable s (form r) ≡ true) {ws : List ℕ} (words : wordsOf r ≡ ws) where
+        past : writeOf s r space ≡ refusedOr written.Refused (first (ROOM when ltb space (length ws) ∷ [])) (written.Words (length ws))
+        unfolding writeOf
+        past =
+            passed-by s (writeCases s r space) written.Refused _ fine ∙ miss FIELD _ written.Refused _ (ap not fields) ∙ miss FORM _ written.Refused _ (ap not there)
+            ∙ ap (λ (l : List ℕ). refusedOr written.Refused (first (ROOM when ltb space (length l) ∷ [])) (written.Words (length l))) words
+
+        pub by-room : space < length ws → writeOf s r space ≡ written.Refused (record { number = ROOM })
+        by-room h = past ∙ hit ROOM [] written.Refused _ (lt-ltb _ _ h)
+
+        pub by-words : length ws ≤ space → writeOf s r space ≡ written.Words (length ws)
+        by-words h = past ∙ miss ROOM [] written.Refused _ (le-ltb _ _ h) ∙ no-more written.Refused _
+
+-- an answer with the output that goes with it
+module _ (s : Setting) (r : Reading) (out : List ℕ) where
+  pub refused : (x : Refusal) → writeOf s r (length out) ≡ written.Refused x → Writes s r out (written.Refused x) out
+  unfolding outAfter
+  refused x e = record { answer = sym e; memory = refl }
+
+  pub wrote : {k : ℕ} {ws : List ℕ} → wordsOf r ≡ ws → writeOf s r (length out) ≡ written.Words k → Writes s r out (written.Words k) (sets out 0 ws)
+  unfolding outAfter
+  wrote w e = record { answer = sym e; memory = ap (sets out 0) (sym w) }

@@ -1,0 +1,54 @@
+use Prim.Native.Nat.{ℕ}
+use mathlib.Core.Path.{_≡_, sym, ap, _∙_}
+use mathlib.Core.Bool.{true}
+use mathlib.Core.List.{[], _∷_, _++_}
+use borrow.Author.Needs.{needs}
+use borrow.Author.Tests.{not-true, not-false}
+use Rattle.word.specs.Setting.{checkOf}
+use Rattle.word.specs.Form.{usable}
+use Rattle.word.specs.Reading.{form, values}
+use Rattle.word.specs.Writing.{fit}
+use Rattle.word.specs.declared.setting.Check.the-variants as check
+use Rattle.word.proofs.Writer.{one-word, two-words, by-setting, by-field, by-form, by-room, by-words, refused, wrote}
+use Rattle.word.proofs.writing.write.Statement.{statement}
+use Rattle.word.proofs.writing.write.Tie as tie
+
+-- what the tests have shown, where they have been passed
+fine : (c : tie.After-enum-told) → checkOf (c .before .before .before .before .args .setting) ≡ check.Fine
+fine c = sym (c .before .before .check .ensures) ∙ c .enum-told .given .1
+
+fields : (c : tie.Else1) → let r = c .before .before .before .before .before .before .args .command in fit (form r .word ++ form r .next) (values r) ≡ true
+fields c = sym (c .before .fields-fit .ensures) ∙ not-false _ (c .if1 .left)
+
+there : (c : tie.Else2) → let a = c .before .before .before .before .before .before .before .before .args in usable (a .setting) (form (a .command)) ≡ true
+there c = sym (c .before .available .ensures) ∙ not-false _ (c .if2 .left)
+
+pub write-spec : {M : Type 1} → statement M
+write-spec =
+    tie.close
+    (tie.spec
+    (λ c κs. search needs)
+    (λ c. search needs)
+    (λ c. refused _ _ _ _ (by-setting _ _ _ _ (sym (c .before .before .before .check .ensures) ∙ c .before .check2 .given .1)))
+    (λ c. search needs)
+    (λ c κs. search needs)
+    (λ c. refused _ _ _ _ (by-field _ _ _ (fine (c .before .before)) (sym (c .before .fields-fit .ensures) ∙ not-true _ (c .if1 .taken))))
+    (λ c κs. search needs)
+    (λ c. refused _ _ _ _ (by-form _ _ _ (fine (c .before .before .before .before)) (fields (c .before .before)) (sym (c .before .available .ensures) ∙ not-true _ (c .if2 .taken))))
+    (λ c. search needs)
+    (λ c. refused _ _ _ _ (by-room _ _ _ (fine (c .before .before .before .before .before .before)) (fields (c .before .before .before .before)) (there (c .before .before)) (one-word _ (c .before .match2 .keys2)) (c .if3 .taken)))
+    (λ c κs. fields (c .before .before .before .before))
+    (λ c. search needs)
+    (λ c. search needs)
+    (λ c.
+    let one = one-word _ (c .before .before .match2 .keys2) ∙ ap (λ (w : ℕ). w ∷ []) (sym (c .first-word .ensures)) in
+    wrote _ _ _ one (by-words _ _ _ (fine (c .before .before .before .before .before .before .before)) (fields (c .before .before .before .before .before)) (there (c .before .before .before)) one (c .before .if3 .left)))
+    (λ c. refused _ _ _ _ (by-room _ _ _ (fine (c .before .before .before .before .before .before .before .before)) (fields (c .before .before .before .before .before .before)) (there (c .before .before .before .before)) (two-words (c .before .before .command .given .1)) (c .if4 .taken)))
+    (λ c κs. rw (c .before .before .command .given .1) at (fields (c .before .before .before .before .before .before)))
+    (λ c. search needs)
+    (λ c. search needs)
+    (λ c. search needs)
+    (λ c.
+    let n = c .before .before .before .command .given .0 .1 .1 .0 in
+    let two = two-words (c .before .before .before .command .given .1) ∙ ap (λ (w : ℕ). w ∷ n ∷ []) (sym (c .first-word2 .ensures)) in
+    wrote _ _ _ two (by-words _ _ _ (fine (c .before .before .before .before .before .before .before .before .before)) (fields (c .before .before .before .before .before .before .before)) (there (c .before .before .before .before .before)) two (c .before .if4 .left))))

@@ -1,0 +1,10 @@
+pub mod First
+pub mod Setting
+pub mod Form
+pub mod Reading
+pub mod Writing
+pub mod Special
+pub mod Answers
+pub mod Contracts
+pub mod Numbers
+pub mod Promises

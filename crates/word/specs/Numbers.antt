@@ -1,0 +1,41 @@
+-- The paper's 'Numbers', "in a single table under one statement; level 3, NV04-style, SLI on unless said", and the first of
+-- its 'Misreadings to catch'. Rows below level 3 are read with SLI off: with SLI on they would be refused.
+use Prim.Native.Nat.{ℕ, _%_}
+use mathlib.Core.Bool.{Bool, true, false}
+use mathlib.Core.List.{List, [], _∷_, map}
+use mathlib.Core.Path.{_≡_}
+use Rattle.word.specs.Reading.{readOf}
+use Rattle.word.specs.declared.setting.Setting.{Setting}
+use Rattle.word.specs.declared.reading.Reading.{Reading}
+use Rattle.word.specs.declared.reading.Reading.the-variants.{Increasing, NonIncreasing, Sli, Return, Long, OldJump, Jump, Call, Reserved}
+
+pub record Row : Type 0 where
+  pub setting : Setting
+  pub word : ℕ
+  pub reading : Reading
+
+-- level, mode, SLI, the word, and what it reads as
+abbrev row : ℕ → ℕ → Bool → ℕ → Reading → Row
+row l m on w r = record { setting = record { level = record { number = l }; mode = record { number = m }; sli = on }; word = w; reading = r }
+
+-- `next` is the word after: the long form's count is its low 24 bits
+abbrev pub table : ℕ → List Row
+table next =
+    row 3 0 true 0x00000000 (Increasing 0 0 0)
+    ∷ row 3 0 true 0x00082180 (Increasing 2 1 0x0180)
+    ∷ row 3 0 true 0x400cfffc (NonIncreasing 3 7 0x1ffc)
+    ∷ row 3 0 true 0x00010050 (Sli 5)
+    ∷ row 3 0 true 0x00020000 Return
+    ∷ row 4 1 true 0x00034100 (Long 2 0x0100 (next % 0x1000000))
+    ∷ row 3 0 true 0x3ffffffc (OldJump 0x1ffffffc)
+    ∷ row 3 0 true 0x00002002 (Call 0x2000)
+    ∷ row 0 0 false 0x400cfffc Reserved
+    ∷ row 3 0 false 0x00010050 Reserved
+    ∷ row 3 0 true 0x00020004 Reserved
+    ∷ row 3 0 true 0x00000003 Reserved
+    ∷ row 2 0 false 0x00010001 (Jump 0x00010000)
+    ∷ []
+
+-- every row reads as it says, for every next word
+abbrev pub Numbers : Type 0
+Numbers = (next : ℕ) → map (λ (x : Row). readOf (x .setting) (x .word) next) (table next) ≡ map (λ (x : Row). x .reading) (table next)

@@ -1,0 +1,171 @@
+-- The promises about words, each a statement that is proved under its own name in proofs/. They speak of the public
+-- functions through their contracts (Contracts.antt): of every answer and every output that a contract allows.
+use Prim.Native.Nat.{ℕ, _%_, _≤_, _<_}
+use mathlib.Core.Path.{_≡_}
+use mathlib.Core.Bool.{Bool, true}
+use mathlib.Core.List.{List, [], _∷_, _++_}
+use mathlib.Core.Logic.{_⊎_, _↔_}
+use mathlib.Core.Option.{none, some}
+use lib.Dec.{eqb}
+use lib.ListN.{length, getD, drop}
+use Rattle.word.specs.First.{choose, Plain, _if_, FirstIs}
+use Rattle.word.specs.Setting.{LEVEL, MODE, SLI, SIZE, FIELD, ROOM, FORM}
+use Rattle.word.specs.Form.{fits, forms, everythingElse}
+use Rattle.word.specs.Reading.{number}
+use Rattle.word.specs.Answers.{checkRefusal, readingRefusal, placeRefusal, writtenRefusal, writtenValues}
+use Rattle.word.specs.Contracts.{Checks, Reads, ReadsAt, Writes, Presents}
+use Rattle.word.specs.declared.setting.Level.{Level}
+use Rattle.word.specs.declared.setting.Setting.{Setting}
+use Rattle.word.specs.declared.setting.Check.{Check}
+use Rattle.word.specs.declared.reading.Reading.{Reading}
+use Rattle.word.specs.declared.reading.Reading.the-variants.{Increasing, NonIncreasing, Sli, Return, Long, OldJump, Jump, Call, Reserved, Refused as Refusing}
+use Rattle.word.specs.declared.reading.Place.{Place}
+use Rattle.word.specs.declared.writing.Written.{Written}
+
+-- The conditions of the refusals, in plain terms.
+
+-- LEVEL, MODE, SLI: what refuses a setting
+abbrev pub settingPlain : Setting → List Plain
+settingPlain s =
+    LEVEL if (5 < s .level .number)
+    ∷ MODE if ((1 < s .mode .number) ⊎ ((s .mode .number ≡ 1) × (s .level .number < 4)))
+    ∷ SLI if ((s .sli ≡ true) × (s .level .number < 3))
+    ∷ []
+
+-- every number of a reading is within its width, and a method or a target is a multiple of 4
+abbrev pub Within : Reading → Type 0
+Within (Increasing c s m) = (c < 0x800) × (s < 8) × (m < 0x2000) × (m % 4 ≡ 0)
+Within (NonIncreasing c s m) = (c < 0x800) × (s < 8) × (m < 0x2000) × (m % 4 ≡ 0)
+Within (Sli k) = k < 0x1000
+Within Return = Unit {0}
+Within (Long s m c) = (s < 8) × (m < 0x2000) × (m % 4 ≡ 0) × (c < 0x1000000)
+Within (OldJump t) = (t < 0x20000000) × (t % 4 ≡ 0)
+Within (Jump t) = (t < 0x100000000) × (t % 4 ≡ 0)
+Within (Call t) = (t < 0x100000000) × (t % 4 ≡ 0)
+Within Reserved = Unit {0}
+Within (Refusing r) = Unit {0}
+
+-- a command may be used at a setting
+abbrev pub Available : Setting → Reading → Type 0
+Available s (Increasing c b m) = Unit {0}
+Available s (NonIncreasing c b m) = 1 ≤ s .level .number
+Available s (Sli k) = (3 ≤ s .level .number) × (s .sli ≡ true)
+Available s Return = (2 ≤ s .level .number) × (s .mode .number ≡ 0)
+Available s (Long b m c) = s .mode .number ≡ 1
+Available s (OldJump t) = s .mode .number ≡ 0
+Available s (Jump t) = (2 ≤ s .level .number) × (s .mode .number ≡ 0)
+Available s (Call t) = (2 ≤ s .level .number) × (s .mode .number ≡ 0)
+Available s Reserved = ⊥
+Available s (Refusing r) = ⊥
+
+-- how many words a command is written as
+abbrev pub size : Reading → ℕ
+size (Increasing c s m) = 1
+size (NonIncreasing c s m) = 1
+size (Sli k) = 1
+size Return = 1
+size (Long s m c) = 2
+size (OldJump t) = 1
+size (Jump t) = 1
+size (Call t) = 1
+size Reserved = 1
+size (Refusing r) = 1
+
+-- SIZE, of lent words
+abbrev pub sizePlain : List ℕ → List Plain
+sizePlain ws = SIZE if (1048576 < length ws) ∷ []
+
+-- FIELD, FORM, ROOM: what refuses a command and an output
+abbrev pub writePlain : Setting → Reading → List ℕ → List Plain
+writePlain s r out = FIELD if (Within r → ⊥) ∷ FORM if (Available s r → ⊥) ∷ ROOM if (length out < size r) ∷ []
+
+-- Promise 1. A refusal is given exactly when the table says: an answer is refusal n if and only if n's condition holds
+-- and none before it in the paper's order does.
+pub record Refused : Type 0 where
+  pub check : (s : Setting) (a : Check) → Checks s a → (n : ℕ) → checkRefusal a ≡ some n ↔ FirstIs (settingPlain s) n
+  pub read : (s : Setting) (w next : ℕ) (a : Reading) → Reads s w next a → (n : ℕ) → readingRefusal a ≡ some n ↔ FirstIs (settingPlain s) n
+  pub read-at :
+      (s : Setting) (ws : List ℕ) (p : ℕ) (a : Place)
+      → ReadsAt s ws p a
+      → (n : ℕ)
+      → placeRefusal a ≡ some n ↔ FirstIs (settingPlain s ++ sizePlain ws) n
+  pub write :
+      (s : Setting) (r : Reading) (out : List ℕ) (a : Written) (exit : List ℕ)
+      → Writes s r out a exit
+      → (n : ℕ)
+      → writtenRefusal a ≡ some n ↔ FirstIs (settingPlain s ++ writePlain s r out) n
+  -- "No refusal writes lent memory."
+  pub unwritten :
+      (s : Setting) (r : Reading) (out : List ℕ) (a : Written) (exit : List ℕ)
+      → Writes s r out a exit
+      → (n : ℕ)
+      → writtenRefusal a ≡ some n
+      → exit ≡ out
+
+-- Each contract leaves one outcome: any two that it allows are equal.
+pub record One : Type 0 where
+  pub check : (s : Setting) (a b : Check) → Checks s a → Checks s b → a ≡ b
+  pub read : (s : Setting) (w next : ℕ) (a b : Reading) → Reads s w next a → Reads s w next b → a ≡ b
+  pub read-at : (s : Setting) (ws : List ℕ) (p : ℕ) (a b : Place) → ReadsAt s ws p a → ReadsAt s ws p b → a ≡ b
+  pub write :
+      (s : Setting) (r : Reading) (out : List ℕ) (a b : Written) (x y : List ℕ)
+      → Writes s r out a x
+      → Writes s r out b y
+      → (a ≡ b) × (x ≡ y)
+  pub present : (level : Level) (m : ℕ) (a b : Bool) → Presents level m a → Presents level m b → a ≡ b
+
+-- Promise 2, first half: what the writer writes reads back as the same command, and it writes nothing else.
+pub record Echo (s : Setting) (r : Reading) (out : List ℕ) (a : Written) (exit : List ℕ) : Type 0 where
+  pub count : writtenValues a ≡ size r ∷ []
+  -- the first word, read at the same setting with the second after it, or with any word where the command has one
+  pub same : (next : ℕ) → (size r ≡ 2 → next ≡ getD exit 1 0) → (x : Reading) → Reads s (getD exit 0 0) next x → x ≡ r
+  pub length-stays : length exit ≡ length out
+  pub tail-stays : drop (size r) exit ≡ drop (size r) out
+
+abbrev pub ReadBack : Type 0
+ReadBack =
+    (s : Setting) (r : Reading) (out : List ℕ) (a : Written) (exit : List ℕ)
+    → Writes s r out a exit
+    → writtenRefusal a ≡ none
+    → Echo s r out a exit
+
+-- Promise 2, second half: words that read as a command (numbers 1 to 8) are written back, at that setting and into every
+-- output long enough, as the same words followed by the old tail, but for the upper eight bits of a long count.
+abbrev pub WriteBack : Type 0
+WriteBack =
+    (s : Setting) (w next : ℕ) (r : Reading)
+    → w < 0x100000000
+    → Reads s w next r
+    → number r ≤ 8
+    → (out : List ℕ) (a : Written) (exit : List ℕ)
+    → size r ≤ length out
+    → Writes s r out a exit
+    → (writtenRefusal a ≡ none) × (exit ≡ (w ∷ choose (eqb (number r) 5) (next % 0x1000000 ∷ []) []) ++ drop (size r) out)
+
+-- Every number of a reading is within its width.
+abbrev pub Widths : Type 0
+Widths = (s : Setting) (w next : ℕ) (r : Reading) → Reads s w next r → Within r
+
+-- Which methods a level has, by their byte numbers: "0x00 always; 0x10 to 0x24 at level 5; 0x50 from 1; 0x60 to 0x6c from 2;
+-- 0x80 from 3", and every method from 0x100 up.
+abbrev pub Specials : Type 0
+Specials =
+    (level : Level) (m : ℕ) (a : Bool)
+    → Presents level m a
+    → a ≡ true
+    ↔ ((0x100 ≤ m)
+    ⊎ (m ≡ 0x00)
+    ⊎ ((0x10 ≤ m) × (m ≤ 0x24) × (5 ≤ level .number))
+    ⊎ ((m ≡ 0x50) × (1 ≤ level .number))
+    ⊎ ((0x60 ≤ m) × (m ≤ 0x6c) × (2 ≤ level .number))
+    ⊎ ((m ≡ 0x80) × (3 ≤ level .number)))
+
+-- No word has the bits of two forms, so the order of the table says nothing.
+abbrev pub OneForm : Type 0
+OneForm =
+    (w i j : ℕ)
+    → i < 8
+    → j < 8
+    → fits (getD forms i everythingElse .word) w ≡ true
+    → fits (getD forms j everythingElse .word) w ≡ true
+    → getD forms i everythingElse ≡ getD forms j everythingElse

@@ -1,0 +1,70 @@
+-- What a word reads as.
+use Prim.Native.Nat.{ℕ, _+_}
+use mathlib.Core.List.{List, [], _∷_, _++_}
+use lib.Dec.{ltb}
+use lib.ListN.{length, getD}
+use Rattle.word.specs.First.{choose, first}
+use Rattle.word.specs.Setting.{settingCases, sizeCases, refusedOr}
+use Rattle.word.specs.Form.{Form, formOf, numbersIn, usable, increasing, nonIncreasing, sliConditional, returning, long, oldJump, jump, call, everythingElse}
+use Rattle.word.specs.declared.setting.Setting.{Setting}
+use Rattle.word.specs.declared.reading.Reading.{Reading}
+use Rattle.word.specs.declared.reading.Reading.the-variants.{Increasing, NonIncreasing, Sli, Return, Long, OldJump, Jump, Call, Reserved, Refused}
+use Rattle.word.specs.declared.reading.Place.{Place}
+use Rattle.word.specs.declared.reading.Place.the-variants as place
+
+-- a reading's number: its form's place in the paper's list, then 'reserved' and the refusal of a setting
+unfoldable pub number : Reading → ℕ
+number (Increasing c s m) = 1
+number (NonIncreasing c s m) = 2
+number (Sli k) = 3
+number Return = 4
+number (Long s m c) = 5
+number (OldJump t) = 6
+number (Jump t) = 7
+number (Call t) = 8
+number Reserved = 9
+number (Refused r) = 10
+
+-- the form of a command; neither 'reserved' nor a refusal has one
+unfoldable pub form : Reading → Form
+form (Increasing c s m) = increasing
+form (NonIncreasing c s m) = nonIncreasing
+form (Sli k) = sliConditional
+form Return = returning
+form (Long s m c) = long
+form (OldJump t) = oldJump
+form (Jump t) = jump
+form (Call t) = call
+form Reserved = everythingElse
+form (Refused r) = everythingElse
+
+-- the numbers of a reading, in the order in which the words hold them
+unfoldable pub values : Reading → List ℕ
+values (Increasing c s m) = c ∷ s ∷ m ∷ []
+values (NonIncreasing c s m) = c ∷ s ∷ m ∷ []
+values (Sli k) = k ∷ []
+values Return = []
+values (Long s m c) = s ∷ m ∷ c ∷ []
+values (OldJump t) = t ∷ []
+values (Jump t) = t ∷ []
+values (Call t) = t ∷ []
+values Reserved = []
+values (Refused r) = r .number ∷ []
+
+-- the command of a form that a word holds; `next` is the word after it
+unfoldable pub commandIn : Form → ℕ → ℕ → Reading
+commandIn f w next = (f .command) (numbersIn (f .word) w ++ numbersIn (f .next) next)
+
+-- the command of the form whose bits the word has, where that form may be used
+unfoldable pub readingOf : Setting → ℕ → ℕ → Reading
+readingOf s w next = choose (usable s (formOf w)) (commandIn (formOf w) w next) Reserved
+
+-- "Reading a word: 1, 2, 4"
+unfoldable pub readOf : Setting → ℕ → ℕ → Reading
+readOf s w next = refusedOr Refused (first (settingCases s)) (readingOf s w next)
+
+-- "Reading a word: 1, 2, 4, 8", at a place of lent words. After the last word stands 0.
+unfoldable pub readAtOf : Setting → List ℕ → ℕ → Place
+readAtOf s ws p =
+    refusedOr place.Refused (first (settingCases s ++ sizeCases (length ws)))
+    (choose (ltb p (length ws)) (place.Word (readingOf s (getD ws p 0) (getD ws (p + 1) 0))) place.Past)

@@ -1,0 +1,199 @@
+// What a command word reads as.
+ghost use mathlib.Core.Path.{_≡_};
+ghost use Prim.Native.Nat.{_+_, _<_};
+ghost use lib.ListN.{getD};
+ghost use Rattle.word.specs.Form.{formOf, usable};
+ghost use Rattle.word.specs.Reading.{form, commandIn, readingOf};
+ghost use Rattle.word.specs.Contracts.{Reads, ReadsAt};
+use crate::setting::Check;
+use crate::setting::Level;
+use crate::setting::Mode;
+use crate::setting::Refusal;
+use crate::setting::Setting;
+
+// A command, with its numbers in the order in which its words hold them. Methods and targets are
+// byte numbers, multiples of 4.
+pub enum Reading {
+    Increasing {
+        count: u32,
+        subchannel: u32,
+        method: u32,
+    },
+    NonIncreasing {
+        count: u32,
+        subchannel: u32,
+        method: u32,
+    },
+    Sli {
+        mask: u32,
+    },
+    Return,
+    Long {
+        subchannel: u32,
+        method: u32,
+        count: u32,
+    },
+    OldJump {
+        target: u32,
+    },
+    Jump {
+        target: u32,
+    },
+    Call {
+        target: u32,
+    },
+    Reserved,
+    Refused {
+        refusal: Refusal,
+    },
+}
+
+// What stands at a place of lent words.
+pub enum Place {
+    Word { reading: Reading },
+    Past,
+    Refused { refusal: Refusal },
+}
+
+// The most words that may be lent.
+pub const MOST_WORDS: usize = 1_048_576;
+
+// What a word reads as; `next` is the word after it, where a long form has its count.
+pub fn read(setting: Setting, word: u32, next: u32) -> Reading
+    ensures { λ r. ⌜ Reads setting word next r ⌝ }
+{
+    let check = setting.check();
+    if let Check::Refused { refusal } = check {
+        return Reading::Refused { refusal };
+    }
+    read_checked(setting, word, next)
+}
+
+// The same at a place of lent words. A long form at the last of them has 0 for its next word.
+pub fn read_at(setting: Setting, words: &[u32], place: usize) -> Place
+    ensures { λ r. ⌜ ReadsAt setting (now (words .entry)) place r ⌝ }
+{
+    let check = setting.check();
+    if let Check::Refused { refusal } = check {
+        return Place::Refused { refusal };
+    }
+    if MOST_WORDS < words.len() {
+        return Place::Refused {
+            refusal: Refusal::SIZE,
+        };
+    }
+    if words.len() <= place {
+        return Place::Past;
+    }
+    let next = word_or_zero(words, place + 1);
+    Place::Word {
+        reading: read_checked(setting, words[place], next),
+    }
+}
+
+fn word_or_zero(words: &[u32], place: usize) -> u32
+    ensures { λ r. ⌜ r ≡ getD (now (words .entry)) place 0 ⌝ }
+{
+    if place < words.len() { words[place] } else { 0 }
+}
+
+// What a word reads as at a setting that has been checked.
+fn read_checked(setting: Setting, word: u32, next: u32) -> Reading
+    ensures { λ r. ⌜ r ≡ readingOf setting word next ⌝ }
+{
+    let command = command(word, next);
+    if available(setting, command) {
+        command
+    } else {
+        Reading::Reserved
+    }
+}
+
+// The command that a word's bits are, whether or not it may be used anywhere. The two lowest bits
+// are looked at first: they alone make a jump or a call.
+fn command(word: u32, next: u32) -> Reading
+    ensures { λ r. ⌜ r ≡ commandIn (formOf word) word next ⌝ }
+{
+    let low = word & 3;
+    if low == 1 {
+        return Reading::Jump {
+            target: word & 0xffff_fffc,
+        };
+    }
+    if low == 2 {
+        return Reading::Call {
+            target: word & 0xffff_fffc,
+        };
+    }
+    if low == 3 {
+        return Reading::Reserved;
+    }
+    let top = word >> 29;
+    if top == 1 {
+        return Reading::OldJump {
+            target: word & 0x1fff_fffc,
+        };
+    }
+    let middle = (word >> 16) & 3;
+    let subchannel = (word >> 13) & 7;
+    let method = word & 0x1ffc;
+    if middle == 0 {
+        let count = (word >> 18) & 0x7ff;
+        if top == 0 {
+            return Reading::Increasing {
+                count,
+                subchannel,
+                method,
+            };
+        }
+        if top == 2 {
+            return Reading::NonIncreasing {
+                count,
+                subchannel,
+                method,
+            };
+        }
+        return Reading::Reserved;
+    }
+    let upper = word >> 16;
+    if upper == 1 {
+        if word & 0xf == 0 {
+            return Reading::Sli {
+                mask: (word >> 4) & 0xfff,
+            };
+        }
+        return Reading::Reserved;
+    }
+    if upper == 3 {
+        return Reading::Long {
+            subchannel,
+            method,
+            count: next & 0xff_ffff,
+        };
+    }
+    if word == 0x0002_0000 {
+        return Reading::Return;
+    }
+    Reading::Reserved
+}
+
+// Whether a command may be used at a setting.
+pub(crate) fn available(setting: Setting, command: Reading) -> bool
+    ensures { λ r. ⌜ r ≡ usable setting (form command) ⌝ }
+{
+    let level = setting.level.number;
+    let mode = setting.mode.number;
+    let nv04_style = mode == Mode::NV04_STYLE.number;
+    match command {
+        Reading::Increasing { .. } => true,
+        Reading::NonIncreasing { .. } => Level::NV10.number <= level,
+        Reading::Sli { .. } => setting.sli && Level::NV40.number <= level,
+        Reading::Return => nv04_style && Level::NV11.number <= level,
+        Reading::Long { .. } => mode == Mode::IB.number,
+        Reading::OldJump { .. } => nv04_style,
+        Reading::Jump { .. } => nv04_style && Level::NV11.number <= level,
+        Reading::Call { .. } => nv04_style && Level::NV11.number <= level,
+        Reading::Reserved => false,
+        Reading::Refused { .. } => false,
+    }
+}

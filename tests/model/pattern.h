@@ -1,0 +1,56 @@
+/* The forms of command words as document 004 draws them, for the self-test and the vectors. The model does
+ * without them, so that the two are two readings of the same forms. */
+#ifndef MODEL_PATTERN_H
+#define MODEL_PATTERN_H
+
+#include <stdint.h>
+
+enum { PATTERNS = 8 };
+
+/* Bit 31 first; the pattern of reading number n is at n - 1. */
+static const char *const patterns[PATTERNS] = {
+    "000CCCCCCCCCCC00SSSMMMMMMMMMMM00", /* increasing methods */
+    "010CCCCCCCCCCC00SSSMMMMMMMMMMM00", /* non-increasing methods */
+    "0000000000000001MMMMMMMMMMMM0000", /* SLI conditional */
+    "00000000000000100000000000000000", /* return */
+    "0000000000000011SSSMMMMMMMMMMM00", /* long non-increasing methods */
+    "001JJJJJJJJJJJJJJJJJJJJJJJJJJJ00", /* old jump */
+    "JJJJJJJJJJJJJJJJJJJJJJJJJJJJJJ01", /* jump */
+    "JJJJJJJJJJJJJJJJJJJJJJJJJJJJJJ10", /* call */
+};
+
+/* The bits of a pattern that hold a letter, or a fixed '0' or '1'. */
+static inline uint32_t pattern_bits(const char *pattern, char letter)
+{
+    uint32_t mask = 0;
+
+    for (unsigned i = 0; i < 32; i++)
+        mask = mask << 1 | (pattern[i] == letter);
+    return mask;
+}
+
+/* The bits of a word under a mask, gathered into a number, lowest first. */
+static inline uint32_t gather(uint32_t mask, uint32_t word)
+{
+    uint32_t number = 0;
+    unsigned place = 0;
+
+    for (unsigned i = 0; i < 32; i++)
+        if (mask >> i & 1)
+            number |= (word >> i & 1) << place++;
+    return number;
+}
+
+/* The other way: a number spread over the bits of a mask. */
+static inline uint32_t spread(uint32_t mask, uint32_t number)
+{
+    uint32_t word = 0;
+    unsigned place = 0;
+
+    for (unsigned i = 0; i < 32; i++)
+        if (mask >> i & 1)
+            word |= (number >> place++ & 1) << i;
+    return word;
+}
+
+#endif

@@ -1,0 +1,75 @@
+/* A model of command words, written from the paper alone: what a word reads as, which word a command is
+ * written as, and which methods below 0x100 a level has. */
+#ifndef MODEL_WORD_H
+#define MODEL_WORD_H
+
+#include <stdbool.h>
+#include <stddef.h>
+#include <stdint.h>
+
+/* "Modes: 0 NV04-style, 1 IB." */
+enum { MODE_NV04 = 0, MODE_IB = 1 };
+
+/* The refusal numbers that reading and writing a word can give; 0 stands for none. */
+enum {
+    REFUSAL_NONE = 0,
+    REFUSAL_LEVEL = 1,
+    REFUSAL_MODE = 2,
+    REFUSAL_SLI = 4,
+    REFUSAL_SIZE = 8,
+    REFUSAL_FIELD = 10,
+    REFUSAL_ROOM = 11,
+    REFUSAL_FORM = 12
+};
+
+/* "SIZE: pushbuffer or semaphore memory over 1,048,576 words" */
+enum { SIZE_LIMIT = 1048576 };
+
+/* What a reading is. Only reading at a place can answer READING_PAST. */
+enum {
+    READING_INCREASING = 1,
+    READING_NON_INCREASING = 2,
+    READING_SLI = 3,
+    READING_RETURN = 4,
+    READING_LONG = 5,
+    READING_OLD_JUMP = 6,
+    READING_JUMP = 7,
+    READING_CALL = 8,
+    READING_RESERVED = 9,
+    READING_REFUSED = 10,
+    READING_PAST = 11
+};
+
+struct setting {
+    uint32_t level;
+    uint32_t mode;
+    bool sli;
+};
+
+/* A reading's number and its values; values that a reading doesn't use are 0.
+ * Increasing, non-increasing: count, subchannel, method. SLI conditional: mask. Long: subchannel, method,
+ * count. Jumps and call: target. Refused: the refusal's number. Methods and targets are byte numbers. */
+struct reading {
+    uint32_t number;
+    uint32_t value[3];
+};
+
+/* The writer's answer: REFUSAL_NONE and the count of words written, or a refusal and 0. */
+struct written {
+    uint32_t refusal;
+    uint32_t count;
+};
+
+/* Reads a word; the next word matters to the long form alone. */
+struct reading model_read(struct setting setting, uint32_t word, uint32_t next);
+
+/* Reads the word at a place of the lent words. Where no word follows it, the next word counts as 0. */
+struct reading model_read_at(struct setting setting, const uint32_t *words, size_t count, uint64_t place);
+
+/* Writes a command into an output of `room` words. Values that the command doesn't use are not looked at. */
+struct written model_write(struct setting setting, struct reading command, uint32_t *out, size_t room);
+
+/* Whether a level has a method, given by its byte number; levels above 5 count as "at level 5". */
+bool model_present(uint32_t level, uint32_t method);
+
+#endif

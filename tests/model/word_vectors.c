@@ -1,0 +1,418 @@
+/* Writes the vectors of words to standard output: questions and the model's answers, as little-endian words.
+ * A record starts with its kind:
+ *   1 READ     level, mode, SLI, word, next | number, three values
+ *   2 READ_AT  level, mode, SLI, words lent, place (low, high), the first four words | number, three values
+ *   3 WRITE    level, mode, SLI, number, three values, room | refusal, count, the four words of the output
+ *   4 PRESENT  level, method | 0 or 1
+ * Lent words after the fourth are 0. The four words of an output hold 0xa5a50000 to 0xa5a50003 before; the
+ * first `room` of them are lent. With --counts it prints how many records there are of each kind, and how
+ * many per answer, instead. */
+#include <stdio.h>
+#include <string.h>
+
+#include "draw.h"
+#include "pattern.h"
+#include "word.h"
+
+enum { READ = 1, READ_AT = 2, WRITE = 3, PRESENT = 4, KINDS = 5, ANSWERS = 16 };
+
+/* The numbers still to be drawn, and the records counted so far. */
+struct vectors {
+    struct draw draw;
+    bool counting;
+    unsigned long records[KINDS];
+    unsigned long answers[KINDS][ANSWERS];
+};
+
+static void put_word(uint32_t word)
+{
+    for (unsigned i = 0; i < 4; i++)
+        putchar((int)(word >> (8 * i) & 0xff));
+}
+
+/* One record of a kind, with the answer that it is counted under. */
+static void put_record(struct vectors *vectors, uint32_t kind, const uint32_t *words, size_t count,
+                       uint32_t answer)
+{
+    vectors->records[kind]++;
+    vectors->answers[kind][answer]++;
+    if (vectors->counting)
+        return;
+    put_word(kind);
+    for (size_t i = 0; i < count; i++)
+        put_word(words[i]);
+}
+
+/* ---- Settings ---- */
+
+enum { GRID = 42, SETTINGS = 66 };
+
+/* Setting i of SETTINGS. The first GRID are levels 0 to 6 with modes 0 to 2 and SLI off and on; then come
+ * numbers that a narrower type would cut to good ones. */
+static struct setting setting_at(unsigned i)
+{
+    static const uint32_t pairs[][2] = {
+        {255, 0}, {256, 0}, {UINT32_MAX, 0}, {256, 1},        {0, 256},   {5, 256},
+        {4, 257}, {5, 255}, {0, UINT32_MAX}, {5, UINT32_MAX}, {256, 256}, {UINT32_MAX, UINT32_MAX},
+    };
+    unsigned pair = (i - GRID) / 2;
+
+    if (i < GRID)
+        return (struct setting){i / 6, i / 2 % 3, i % 2 == 1};
+    return (struct setting){pairs[pair][0], pairs[pair][1], i % 2 == 1};
+}
+
+static bool is_accepted(struct setting setting)
+{
+    return model_read(setting, 0, 0).number != READING_REFUSED;
+}
+
+/* ---- READ ---- */
+
+static void put_read(struct vectors *vectors, struct setting setting, uint32_t word, uint32_t next)
+{
+    struct reading read = model_read(setting, word, next);
+    uint32_t words[] = {setting.level, setting.mode,  setting.sli,   word,         next,
+                        read.number,   read.value[0], read.value[1], read.value[2]};
+
+    put_record(vectors, READ, words, sizeof words / sizeof words[0], read.number);
+}
+
+/* The next word is drawn. No call here has two drawn arguments, as C leaves open which comes first. */
+static void put_read_any(struct vectors *vectors, struct setting setting, uint32_t word)
+{
+    put_read(vectors, setting, word, draw_number(&vectors->draw));
+}
+
+/* A word that has a pattern's form, its fields drawn. */
+static uint32_t draw_form(struct draw *draw, const char *pattern)
+{
+    uint32_t fixed = pattern_bits(pattern, '0') | pattern_bits(pattern, '1');
+
+    return (draw_number(draw) & ~fixed) | pattern_bits(pattern, '1');
+}
+
+/* Half the time a word of one of the forms, half the time a word that may be anything. */
+static uint32_t draw_any(struct draw *draw)
+{
+    uint32_t choice = draw_below(draw, 2 * PATTERNS);
+
+    return choice < PATTERNS ? draw_form(draw, patterns[choice]) : draw_word(draw);
+}
+
+/* Field limits: 0, 1, the largest but one and the largest, each field in turn, the others drawn. */
+static void put_read_limits(struct vectors *vectors, struct setting setting, const char *pattern)
+{
+    for (const char *letter = "CSMJ"; *letter != '\0'; letter++) {
+        uint32_t field = pattern_bits(pattern, *letter);
+        uint32_t largest = gather(field, UINT32_MAX);
+        uint32_t limits[] = {0, 1, largest - 1, largest};
+
+        for (unsigned i = 0; field != 0 && i < 4; i++) {
+            uint32_t word = draw_form(&vectors->draw, pattern) & ~field;
+
+            put_read_any(vectors, setting, word | spread(field, limits[i]));
+        }
+    }
+    /* Also the form that has no field, and once more all fields at their least and largest. */
+    put_read(vectors, setting, pattern_bits(pattern, '1'), 0);
+    put_read(vectors, setting, ~pattern_bits(pattern, '0'), UINT32_MAX);
+}
+
+/* Each reserved neighbour: the form's fixed bits turned over, one at a time. */
+static void put_read_neighbours(struct vectors *vectors, struct setting setting, const char *pattern)
+{
+    uint32_t fixed = pattern_bits(pattern, '0') | pattern_bits(pattern, '1');
+
+    for (unsigned i = 0; i < 32; i++) {
+        uint32_t bit = UINT32_C(1) << i;
+
+        if (fixed & bit)
+            put_read_any(vectors, setting, draw_form(&vectors->draw, pattern) ^ bit);
+    }
+}
+
+/* "the low 24 bits of the next word are the count, the upper 8 are ignored" */
+static void put_read_next(struct vectors *vectors, struct setting setting)
+{
+    static const uint32_t nexts[] = {0,          1,          0x00fffffe, 0x00ffffff, 0x01000000,
+                                     0x80000001, 0xff000000, 0xff00abcd, 0xfffffffe, UINT32_MAX};
+
+    for (unsigned i = 0; i < sizeof nexts / sizeof nexts[0]; i++)
+        put_read(vectors, setting, draw_form(&vectors->draw, patterns[READING_LONG - 1]), nexts[i]);
+}
+
+/* The words of the paper's Numbers and the misreading to catch, whatever the setting. */
+static void put_read_numbers(struct vectors *vectors, struct setting setting)
+{
+    static const uint32_t words[] = {0x00000000, 0x00082180, 0x400cfffc, 0x00010050, 0x00020000, 0x00034100,
+                                     0x3ffffffc, 0x00002002, 0x00020004, 0x00000003, 0x00010001};
+
+    for (unsigned i = 0; i < sizeof words / sizeof words[0]; i++)
+        put_read(vectors, setting, words[i], 3);
+}
+
+static void put_reads(struct vectors *vectors)
+{
+    for (unsigned i = 0; i < SETTINGS; i++) {
+        put_read_numbers(vectors, setting_at(i));
+        put_read_next(vectors, setting_at(i));
+    }
+    for (unsigned i = 0; i < GRID; i++)
+        for (unsigned j = 0; j < PATTERNS; j++) {
+            put_read_limits(vectors, setting_at(i), patterns[j]);
+            put_read_neighbours(vectors, setting_at(i), patterns[j]);
+        }
+    for (unsigned i = 0; i < 14500; i++) {
+        struct setting setting = draw_setting(&vectors->draw);
+
+        put_read_any(vectors, setting, draw_any(&vectors->draw));
+    }
+}
+
+/* ---- READ_AT ---- */
+
+static void put_read_at(struct vectors *vectors, struct setting setting, uint32_t lent, uint64_t place)
+{
+    static uint32_t words[SIZE_LIMIT + 1];
+    uint32_t record[14] = {setting.level, setting.mode,    setting.sli,
+                           lent,          (uint32_t)place, (uint32_t)(place >> 32)};
+    struct reading read;
+
+    /* Words that aren't lent are drawn too: nothing may come of them. Half of all words are long forms, as
+     * they alone look at the next word. */
+    for (unsigned i = 0; i < 4; i++) {
+        bool is_long = draw_below(&vectors->draw, 2) == 0;
+
+        words[i] =
+            is_long ? draw_form(&vectors->draw, patterns[READING_LONG - 1]) : draw_any(&vectors->draw);
+    }
+    read = model_read_at(setting, words, lent, place);
+    memcpy(record + 6, words, 4 * sizeof words[0]);
+    record[10] = read.number;
+    memcpy(record + 11, read.value, sizeof read.value);
+    put_record(vectors, READ_AT, record, sizeof record / sizeof record[0], read.number);
+}
+
+/* Places near 0, near the end and far past it. Below two words "near the end" wraps to far past. */
+static void put_read_at_places(struct vectors *vectors, struct setting setting, uint32_t lent)
+{
+    uint64_t end = lent;
+    uint64_t wide = UINT64_C(1) << 32;
+    uint64_t top = UINT64_C(1) << 63;
+    uint64_t places[] = {0, 1, 2, 3, end - 2, end - 1, end, end + 1, wide, wide + 1, top, UINT64_MAX};
+
+    for (unsigned i = 0; i < sizeof places / sizeof places[0]; i++)
+        put_read_at(vectors, setting, lent, places[i]);
+}
+
+static void put_read_ats(struct vectors *vectors)
+{
+    static const uint32_t lents[] = {0, 1, 2, 3, 4, 5, 1000, SIZE_LIMIT - 1, SIZE_LIMIT, SIZE_LIMIT + 1};
+
+    for (unsigned i = 0; i < SETTINGS; i++) {
+        put_read_at(vectors, setting_at(i), 0, 0);
+        put_read_at(vectors, setting_at(i), 3, draw_below(&vectors->draw, 4));
+        put_read_at(vectors, setting_at(i), SIZE_LIMIT + 1, draw_below(&vectors->draw, 4));
+    }
+    for (unsigned i = 0; i < GRID; i++)
+        if (is_accepted(setting_at(i)))
+            for (unsigned j = 0; j < sizeof lents / sizeof lents[0]; j++)
+                put_read_at_places(vectors, setting_at(i), lents[j]);
+    for (unsigned i = 0; i < 400; i++) {
+        struct setting setting = draw_setting(&vectors->draw);
+        uint32_t lent = draw_below(&vectors->draw, 6);
+
+        put_read_at(vectors, setting, lent, draw_below(&vectors->draw, 6));
+    }
+}
+
+/* ---- WRITE ---- */
+
+static void put_write(struct vectors *vectors, struct setting setting, struct reading command, uint32_t room)
+{
+    uint32_t out[4] = {0xa5a50000, 0xa5a50001, 0xa5a50002, 0xa5a50003};
+    struct written written = model_write(setting, command, out, room);
+    const uint32_t *value = command.value;
+    uint32_t words[] = {setting.level, setting.mode, setting.sli, command.number,  value[0],
+                        value[1],      value[2],     room,        written.refusal, written.count,
+                        out[0],        out[1],       out[2],      out[3]};
+
+    put_record(vectors, WRITE, words, sizeof words / sizeof words[0], written.refusal);
+}
+
+/* A field of a command: multiples of the step below the limit fit. A limit of 0 says that there is none. */
+struct field {
+    uint64_t limit;
+    uint32_t step;
+};
+
+static const struct field fields[PATTERNS][3] = {
+    {{0x800, 1}, {8, 1}, {0x2000, 4}},        /* increasing: count, subchannel, method */
+    {{0x800, 1}, {8, 1}, {0x2000, 4}},        /* non-increasing */
+    {{0x1000, 1}, {0, 0}, {0, 0}},            /* SLI conditional: mask */
+    {{0, 0}, {0, 0}, {0, 0}},                 /* return */
+    {{8, 1}, {0x2000, 4}, {0x1000000, 1}},    /* long: subchannel, method, count */
+    {{0x20000000, 4}, {0, 0}, {0, 0}},        /* old jump: target */
+    {{UINT64_C(1) << 32, 4}, {0, 0}, {0, 0}}, /* jump */
+    {{UINT64_C(1) << 32, 4}, {0, 0}, {0, 0}}, /* call */
+};
+
+/* A command whose fields fit, drawn. */
+static struct reading draw_command(struct draw *draw, uint32_t number)
+{
+    struct reading command = {number, {0, 0, 0}};
+
+    for (unsigned i = 0; i < 3; i++) {
+        struct field field = fields[number - 1][i];
+
+        if (field.limit != 0)
+            command.value[i] = (uint32_t)(draw_number(draw) % field.limit) / field.step * field.step;
+    }
+    return command;
+}
+
+/* Numbers at the limits of a field, one past, huge, and where multiples of 4 are asked for, others. */
+static size_t field_numbers(struct field field, uint32_t numbers[12])
+{
+    uint32_t limit = (uint32_t)field.limit;
+    size_t count = 0;
+
+    numbers[count++] = 0;
+    numbers[count++] = field.step;
+    numbers[count++] = limit - field.step;
+    numbers[count++] = limit;
+    numbers[count++] = 0x80000000;
+    numbers[count++] = UINT32_MAX;
+    if (field.step == 4) {
+        numbers[count++] = 1;
+        numbers[count++] = 2;
+        numbers[count++] = 3;
+        numbers[count++] = limit - 1;
+        numbers[count++] = limit - 2;
+        numbers[count++] = limit + 2;
+    }
+    return count;
+}
+
+/* Each field of a command at its limits, the others drawn; any room. */
+static void put_write_limits(struct vectors *vectors, struct setting setting, uint32_t number)
+{
+    for (unsigned i = 0; i < 3; i++) {
+        struct field field = fields[number - 1][i];
+        uint32_t numbers[12];
+        size_t count = field.limit == 0 ? 0 : field_numbers(field, numbers);
+
+        for (size_t j = 0; j < count; j++) {
+            struct reading command = draw_command(&vectors->draw, number);
+
+            command.value[i] = numbers[j];
+            put_write(vectors, setting, command, draw_below(&vectors->draw, 5));
+        }
+    }
+}
+
+/* A command with every field too wide: FIELD, unless the setting is refused. */
+static struct reading wide_command(uint32_t number)
+{
+    struct reading command = {number, {0, 0, 0}};
+
+    for (unsigned i = 0; i < 3; i++)
+        if (fields[number - 1][i].limit != 0)
+            command.value[i] = UINT32_MAX;
+    return command;
+}
+
+/* What is no command: reserved, and the refusals that reading can give. */
+static void put_write_others(struct vectors *vectors, struct setting setting)
+{
+    static const uint32_t refusals[] = {REFUSAL_LEVEL, REFUSAL_MODE, REFUSAL_SLI, REFUSAL_SIZE};
+    uint32_t refusal = refusals[draw_below(&vectors->draw, 4)];
+    uint32_t room = draw_below(&vectors->draw, 5);
+
+    put_write(vectors, setting, (struct reading){READING_RESERVED, {0, 0, 0}}, room);
+    put_write(vectors, setting, (struct reading){READING_REFUSED, {refusal, 0, 0}}, room);
+}
+
+/* Each command that fits with every room, and the limits once more, with other numbers beside them. */
+static void put_writes_accepted(struct vectors *vectors, struct setting setting)
+{
+    for (uint32_t number = 1; number <= PATTERNS; number++) {
+        for (uint32_t room = 0; room <= 4; room++)
+            put_write(vectors, setting, draw_command(&vectors->draw, number), room);
+        put_write_limits(vectors, setting, number);
+    }
+}
+
+static void put_writes(struct vectors *vectors)
+{
+    for (unsigned i = 0; i < SETTINGS; i++) {
+        put_write_others(vectors, setting_at(i));
+        for (uint32_t number = 1; number <= PATTERNS; number++)
+            put_write(vectors, setting_at(i), wide_command(number), draw_below(&vectors->draw, 5));
+    }
+    for (unsigned i = 0; i < GRID; i++)
+        for (uint32_t number = 1; number <= PATTERNS; number++) {
+            put_write_limits(vectors, setting_at(i), number);
+            put_write(vectors, setting_at(i), draw_command(&vectors->draw, number), 2);
+        }
+    for (unsigned i = 0; i < GRID; i++)
+        if (is_accepted(setting_at(i)))
+            put_writes_accepted(vectors, setting_at(i));
+}
+
+/* ---- PRESENT ---- */
+
+static void put_present(struct vectors *vectors, uint32_t level, uint32_t method)
+{
+    bool present = model_present(level, method);
+    uint32_t words[] = {level, method, present};
+
+    put_record(vectors, PRESENT, words, sizeof words / sizeof words[0], present);
+}
+
+static void put_presents(struct vectors *vectors)
+{
+    static const uint32_t levels[] = {0, 1, 2, 3, 4, 5, 6, UINT32_MAX};
+    static const uint32_t larger[] = {0x150, 0x180, 0x1fc, 0x1ffc, 0x2000, 0x10000, 0x10050, UINT32_MAX};
+
+    for (unsigned i = 0; i < sizeof levels / sizeof levels[0]; i++) {
+        for (uint32_t method = 0; method <= 0x110; method++)
+            put_present(vectors, levels[i], method);
+        for (unsigned j = 0; j < sizeof larger / sizeof larger[0]; j++)
+            put_present(vectors, levels[i], larger[j]);
+    }
+}
+
+/* ---- The program ---- */
+
+/* One line for each kind: its records, then the records for each answer that came: for READ and READ_AT the
+ * reading's number, for WRITE the refusal's, for PRESENT 0 or 1. */
+static void print_counts(const struct vectors *vectors)
+{
+    static const char *const names[KINDS] = {"", "READ", "READ_AT", "WRITE", "PRESENT"};
+
+    for (unsigned kind = READ; kind < KINDS; kind++) {
+        printf("%s %lu:", names[kind], vectors->records[kind]);
+        for (unsigned answer = 0; answer < ANSWERS; answer++)
+            if (vectors->answers[kind][answer] != 0)
+                printf(" %u=%lu", answer, vectors->answers[kind][answer]);
+        putchar('\n');
+    }
+}
+
+int main(int count, char **arguments)
+{
+    static struct vectors vectors = {.draw = {0x5eed}};
+
+    vectors.counting = count == 2 && strcmp(arguments[1], "--counts") == 0;
+    if (count > 1 && !vectors.counting)
+        return 2;
+    put_reads(&vectors);
+    put_read_ats(&vectors);
+    put_writes(&vectors);
+    put_presents(&vectors);
+    if (vectors.counting)
+        print_counts(&vectors);
+    return fflush(stdout) != 0 || ferror(stdout) ? 1 : 0;
+}
