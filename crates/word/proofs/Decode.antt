@@ -6,10 +6,11 @@ use mathlib.Core.List.{[]}
 use native.Mathlib.Nat.{div-one}
 use native.Mathlib.Omega.{arith}
 use lib.Bits.{bitAnd, and-mask}
-use lib.Pow.{mod-mod-pow, shr-shr, field as pow-field}
+use lib.Pow.{mod-mod-pow, shr-mod, shr-shr, field as pow-field}
 use borrow.Author.Tests.{ne-eqb}
 use Rattle.word.specs.First.{choose}
-use Rattle.word.specs.Form.{bits, Form, fits, numbersIn, increasing, nonIncreasing, sliConditional, returning, long, oldJump, jump, call, everythingElse, forms, formIn, formOf}
+use Rattle.word.specs.Parts.{bits, fits, numbersIn}
+use Rattle.word.specs.Form.{Form, increasing, nonIncreasing, sliConditional, returning, long, oldJump, jump, call, everythingElse, forms, formIn, formOf}
 use Rattle.word.specs.Reading.{commandIn}
 use Rattle.word.specs.declared.reading.Reading.the-variants.{Increasing, NonIncreasing, Sli, Return, Long, OldJump, Jump, Call, Reserved}
 use Rattle.word.proofs.Forms.{In, here, there, the-form}
@@ -21,6 +22,13 @@ field w hi lo = and-mask (w / 2 ^ lo) (hi + 1 - lo)
 -- and where there is no shift
 pub field-0 : (w hi : ℕ) → bitAnd w (2 ^ (hi + 1 - 0) - 1) ≡ bits hi 0 w
 field-0 w hi = and-mask w (hi + 1 - 0) ∙ ap (λ (n : ℕ). n % 2 ^ (hi + 1 - 0)) (sym (div-one w))
+
+-- the upper half, and the whole, of a word need no mask
+pub upper-half : (w : ℕ) → w < 2 ^ 32 → bits 31 16 w ≡ w / 2 ^ 16
+upper-half w h = shr-mod 16 16 h
+
+pub whole-word : (w : ℕ) → w < 2 ^ 32 → bits 31 0 w ≡ w
+whole-word w h = omega arith
 
 -- what bits 31-16 say of bits 17-16, and bits 31-`lo` of bits 31-29
 middle-of : (w : ℕ) → bits 17 16 w ≡ bits 31 16 w % 4
@@ -80,7 +88,8 @@ module _ (w n : ℕ) where
     unfolding forms formIn fits choose increasing nonIncreasing sliConditional returning long oldJump jump call
     odd-top-is t0 t1 t2 =
         let half : (k : ℕ) → k < 2 ^ 13 → bits 31 16 w ≡ k → ⊥ = λ k h e. t0 (top-of w 16 13 ∙ omega arith) in
-        none (simp (low, and-false, ne-eqb _ _ t0, ne-eqb _ _ t1, ne-eqb _ _ t2, ne-eqb _ _ (half 1 (omega arith)), ne-eqb _ _ (half 3 (omega arith)), ne-eqb (bits 31 0 w) 0x20000 (λ e. t0 (top-of w 0 29 ∙ omega arith))))
+        let whole : bits 31 0 w ≡ 0x20000 → ⊥ = λ e. t0 (top-of w 0 29 ∙ omega arith) in
+        none (simp (low, and-false, ne-eqb _ _ t0, ne-eqb _ _ t1, ne-eqb _ _ t2, ne-eqb _ _ (half 1 (omega arith)), ne-eqb _ _ (half 3 (omega arith)), ne-eqb _ _ whole))
 
     pub odd-sli-is : bits 31 16 w ≡ 1 → (bits 3 0 w ≡ 0 → ⊥) → Reserved ≡ commandIn (formOf w) w n
     unfolding forms formIn fits choose increasing nonIncreasing sliConditional returning long oldJump jump call
@@ -89,7 +98,13 @@ module _ (w n : ℕ) where
         let top : bits 31 29 w ≡ 0 = rw (top-of w 16 13, half) in
         none (simp (low, half, top, middle, and-false, ne-eqb _ _ rest, ne-eqb (bits 31 0 w) 0x20000 (omega arith)))
 
-    pub rest-is : (bits 17 16 w ≡ 0 → ⊥) → (bits 31 29 w ≡ 1 → ⊥) → (bits 31 16 w ≡ 1 → ⊥) → (bits 31 16 w ≡ 3 → ⊥) → (bits 31 0 w ≡ 0x20000 → ⊥) → Reserved ≡ commandIn (formOf w) w n
+    pub rest-is :
+        (bits 17 16 w ≡ 0 → ⊥)
+        → (bits 31 29 w ≡ 1 → ⊥)
+        → (bits 31 16 w ≡ 1 → ⊥)
+        → (bits 31 16 w ≡ 3 → ⊥)
+        → (bits 31 0 w ≡ 0x20000 → ⊥)
+        → Reserved ≡ commandIn (formOf w) w n
     unfolding forms formIn fits choose increasing nonIncreasing sliConditional returning long oldJump jump call
     rest-is middle top h1 h3 e =
         none (simp (low, and-false, ne-eqb _ _ middle, ne-eqb _ _ top, ne-eqb _ _ h1, ne-eqb _ _ h3, ne-eqb _ _ e))

@@ -33,7 +33,10 @@ unfolding first orElse choose
 first-append [] ds = refl
 first-append (c ∷ cs) ds = go (c .holds) (first-append cs ds)
   where
-    go : (b : Bool) → first (cs ++ ds) ≡ orElse (first cs) (first ds) → choose b (some (c .number)) (first (cs ++ ds)) ≡ orElse (choose b (some (c .number)) (first cs)) (first ds)
+    go :
+        (b : Bool)
+        → first (cs ++ ds) ≡ orElse (first cs) (first ds)
+        → choose b (some (c .number)) (first (cs ++ ds)) ≡ orElse (choose b (some (c .number)) (first cs)) (first ds)
     go true e = refl
     go false e = e
 
@@ -70,5 +73,11 @@ first-is (c ∷ cs) [] a n = absurd a
 first-is (c ∷ cs) (p ∷ ps) a n = go (c .holds) refl (first-is cs ps (a .2) n)
   where
     go : (b : Bool) → c .holds ≡ b → first cs ≡ some n ↔ FirstIs ps n → choose b (some (c .number)) (first cs) ≡ some n ↔ FirstIs (p ∷ ps) n
-    go true e ih = (λ h. inl (a .1 .0 e, (let z : c .number ≡ n = cc in sym z ∙ a .0)), λ f. ⊎-elim (λ h. ap some (a .0 ∙ sym (h .1))) (λ h. absurd (h .0 (a .1 .0 e))) f)
-    go false e ih = (λ h. inr (λ q. false≢true (sym e ∙ a .1 .1 q), ih .0 h), λ f. ⊎-elim (λ h. absurd (false≢true (sym e ∙ a .1 .1 (h .0)))) (λ h. ih .1 (h .1)) f)
+    go true e ih = (
+      λ h. inl (a .1 .0 e, (let z : c .number ≡ n = cc in sym z ∙ a .0)),
+      λ f. ⊎-elim (λ h. ap some (a .0 ∙ sym (h .1))) (λ h. absurd (h .0 (a .1 .0 e))) f,
+    )
+    go false e ih = (
+      λ h. inr (λ q. false≢true (sym e ∙ a .1 .1 q), ih .0 h),
+      λ f. ⊎-elim (λ h. absurd (false≢true (sym e ∙ a .1 .1 (h .0)))) (λ h. ih .1 (h .1)) f,
+    )

@@ -9,7 +9,8 @@ use lib.Dec.{eqb, leb}
 use lib.Pow.{mod-mod-pow, shr-shr, field}
 use borrow.Author.Tests.{eq-eqb, leb-true, eqb-true}
 use Rattle.word.specs.First.{choose}
-use Rattle.word.specs.Form.{bits, Part, is, holds, address, spare, Form, fits, increasing, nonIncreasing, sliConditional, returning, long, oldJump, jump, call, everythingElse, forms, formIn, formOf}
+use Rattle.word.specs.Parts.{bits, Part, is, holds, address, spare, fits}
+use Rattle.word.specs.Form.{Form, increasing, nonIncreasing, sliConditional, returning, long, oldJump, jump, call, everythingElse, forms, formIn, formOf}
 use Rattle.word.proofs.First.{by-test, choose-true, choose-false, orElse}
 use Rattle.word.proofs.Tests.{both}
 
@@ -50,14 +51,16 @@ bit-of w h l i a b =
 has-bit : (ps : List Part) (w i b : ℕ) → fits ps w ≡ true → bitIn ps i ≡ some b → w / 2 ^ i % 2 ≡ b
 unfolding fits bitIn bitOf orElse choose
 has-bit [] w i b f e = let z : _≡_ {A = ℕ} 0 1 = cc in absurd (omega arith)
-has-bit (is h l v ∷ ps) w i b f e = go (leb l i && leb i h) refl (both (eqb (bits h l w) v) (fits ps w) f) (λ k. has-bit ps w i b (both (eqb (bits h l w) v) (fits ps w) f .1) k) e
+has-bit (is h l v ∷ ps) w i b f e =
+    let y = both (eqb (bits h l w) v) (fits ps w) f in
+    go (leb l i && leb i h) refl (y .0) (λ k. has-bit ps w i b (y .1) k) e
   where
-    go : (t : Bool) → (leb l i && leb i h) ≡ t → (eqb (bits h l w) v ≡ true) × (fits ps w ≡ true) → (bitIn ps i ≡ some b → w / 2 ^ i % 2 ≡ b)
+    go : (t : Bool) → (leb l i && leb i h) ≡ t → eqb (bits h l w) v ≡ true → (bitIn ps i ≡ some b → w / 2 ^ i % 2 ≡ b)
         → orElse (choose t (some (v / 2 ^ (i - l) % 2)) none) (bitIn ps i) ≡ some b → w / 2 ^ i % 2 ≡ b
     go true t y rest k =
         let x = both (leb l i) (leb i h) t in
         let z : v / 2 ^ (i - l) % 2 ≡ b = cc in
-        sym (bit-of w h l i (leb-true _ _ (x .0)) (leb-true _ _ (x .1))) ∙ ap (λ (n : ℕ). n / 2 ^ (i - l) % 2) (eqb-true _ _ (y .0)) ∙ z
+        sym (bit-of w h l i (leb-true _ _ (x .0)) (leb-true _ _ (x .1))) ∙ ap (λ (n : ℕ). n / 2 ^ (i - l) % 2) (eqb-true _ _ y) ∙ z
     go false t y rest k = rest k
 has-bit (holds h l ∷ ps) w i b f e = has-bit ps w i b f e
 has-bit (address h l ∷ ps) w i b f e = has-bit ps w i b f e

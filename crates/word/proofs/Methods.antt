@@ -43,11 +43,15 @@ module _ (level m : ℕ) where
   module _ (zero : 0 < m) where
     pub timed : 0x10 ≤ m → m ≤ 0x24 → leb 5 level ≡ presentOf level m
     unfolding presentOf listed specials
-    timed h k = simp (lt-leb 0x100 m (omega arith), outside 0x00 0x00 m (inr (omega arith)), inside 0x10 0x24 m h k, outside 0x50 0x50 m (inl (omega arith)), outside 0x60 0x6c m (inl (omega arith)), outside 0x80 0x80 m (inl (omega arith)), or-false)
+    timed h k =
+        let small : m < 0x50 = omega arith in
+        simp (lt-leb 0x100 m (omega arith), outside 0x00 0x00 m (inr zero), inside 0x10 0x24 m h k, outside 0x50 0x50 m (inl small), outside 0x60 0x6c m (inl (omega arith)), outside 0x80 0x80 m (inl (omega arith)), or-false)
 
     pub semaphore : 0x60 ≤ m → m ≤ 0x6c → leb 2 level ≡ presentOf level m
     unfolding presentOf listed specials
-    semaphore h k = simp (lt-leb 0x100 m (omega arith), outside 0x00 0x00 m (inr (omega arith)), outside 0x10 0x24 m (inr (omega arith)), outside 0x50 0x50 m (inr (omega arith)), inside 0x60 0x6c m h k, outside 0x80 0x80 m (inl (omega arith)), or-false)
+    semaphore h k =
+        let large : 0x50 < m = omega arith in
+        simp (lt-leb 0x100 m (omega arith), outside 0x00 0x00 m (inr zero), outside 0x10 0x24 m (inr (omega arith)), outside 0x50 0x50 m (inr large), inside 0x60 0x6c m h k, outside 0x80 0x80 m (inl (omega arith)), or-false)
 
     pub absent : m < 0x100 → (m < 0x10) ⊎ (0x24 < m) → (m < 0x50) ⊎ (0x50 < m) → (m < 0x60) ⊎ (0x6c < m) → (m < 0x80) ⊎ (0x80 < m) → false ≡ presentOf level m
     unfolding presentOf listed specials
@@ -73,7 +77,15 @@ last : (a : Bool) {P : Type 0} → a ≡ true ↔ P → (a || false) ≡ true �
 last true p = p
 last false p = p
 
-pub specials-plain : (m l : ℕ) → presentOf l m ≡ true ↔ ((0x100 ≤ m) ⊎ (m ≡ 0x00) ⊎ ((0x10 ≤ m) × (m ≤ 0x24) × (5 ≤ l)) ⊎ ((m ≡ 0x50) × (1 ≤ l)) ⊎ ((0x60 ≤ m) × (m ≤ 0x6c) × (2 ≤ l)) ⊎ ((m ≡ 0x80) × (3 ≤ l)))
+pub specials-plain :
+    (m l : ℕ)
+    → presentOf l m ≡ true
+    ↔ ((0x100 ≤ m)
+    ⊎ (m ≡ 0x00)
+    ⊎ ((0x10 ≤ m) × (m ≤ 0x24) × (5 ≤ l))
+    ⊎ ((m ≡ 0x50) × (1 ≤ l))
+    ⊎ ((0x60 ≤ m) × (m ≤ 0x6c) × (2 ≤ l))
+    ⊎ ((m ≡ 0x80) × (3 ≤ l)))
 unfolding presentOf listed specials
 specials-plain m l =
     or-plain _ _ (most-plain 0x100 m)

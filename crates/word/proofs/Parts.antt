@@ -10,8 +10,7 @@ use lib.Dec.{eqb, leb, ltb}
 use lib.ListN.{length, take, drop}
 use lib.Pow.{pow-pos, pow-add, shl-lt, shr-lt, high, split, mod-pow-add, mod-mod-pow, field}
 use borrow.Author.Tests.{lt-ltb, eq-eqb, ltb-true, leb-true, eqb-true}
-use Rattle.word.specs.Form.{bits, Part, is, holds, address, spare, fits, numbersIn}
-use Rattle.word.specs.Writing.{fit, wordWith, room}
+use Rattle.word.specs.Parts.{bits, Part, is, holds, address, spare, fits, numbersIn, fit, wordWith, room}
 use Rattle.word.proofs.Tests.{both}
 
 abbrev pub hi : Part → ℕ

@@ -10,9 +10,10 @@ use lib.ListN.{length}
 use borrow.Author.Tests.{lt-ltb, le-leb, eq-eqb, ltb-true, leb-true, eqb-true}
 use Rattle.word.specs.First.{Case, Plain}
 use Rattle.word.specs.Setting.{settingCases, sizeCases}
-use Rattle.word.specs.Form.{Part, is, holds, address, spare, Where, either, only, nowhere, inMode, Form, usable, increasing, nonIncreasing, sliConditional, returning, long, oldJump, jump, call, everythingElse}
-use Rattle.word.specs.Reading.{form, values}
-use Rattle.word.specs.Writing.{fit, nextWord, wordsOf, writeCases}
+use Rattle.word.specs.Parts.{Part, is, holds, address, spare, fit}
+use Rattle.word.specs.Form.{Where, either, only, nowhere, inMode, Form, usable, increasing, nonIncreasing, sliConditional, returning, long, oldJump, jump, call, everythingElse, forms}
+use Rattle.word.specs.Reading.{number, form, values}
+use Rattle.word.specs.Writing.{nextWord, wordsOf, writeCases}
 use Rattle.word.specs.Promises.{Within, Available, size, settingPlain, sizePlain, writePlain}
 use Rattle.word.specs.declared.setting.Setting.{Setting}
 use Rattle.word.specs.declared.reading.Reading.{Reading}
@@ -53,7 +54,7 @@ fit-plain (spare hi lo ∷ ps) ns = fit-plain ps ns
 
 -- FIELD's test
 within-plain : (r : Reading) → Fit (form r .word ++ form r .next) (values r) ↔ Within r
-unfolding form values increasing nonIncreasing sliConditional returning long oldJump jump call everythingElse
+unfolding form number forms values increasing nonIncreasing sliConditional returning long oldJump jump call everythingElse
 within-plain (Increasing c s m) = (λ f. (f .0, f .1 .0, f .1 .1 .0, f .1 .1 .1), λ w. (w .0, (w .1, (w .2, w .3, tt))))
 within-plain (NonIncreasing c s m) = (λ f. (f .0, f .1 .0, f .1 .1 .0, f .1 .1 .1), λ w. (w .0, (w .1, (w .2, w .3, tt))))
 within-plain (Sli k) = (λ f. f .0, λ w. (w, tt))
@@ -103,7 +104,7 @@ usable-plain s f = (
 
 -- FORM's test
 available-plain : (s : Setting) (r : Reading) → (form r .level ≤ s .level .number) × InMode (form r .mode) (s .mode .number) × Enabled (form r .sli) (s .sli) ↔ Available s r
-unfolding form increasing nonIncreasing sliConditional returning long oldJump jump call everythingElse
+unfolding form number forms increasing nonIncreasing sliConditional returning long oldJump jump call everythingElse
 available-plain s (Increasing c b m) = (λ p. tt, λ a. (omega arith, tt, tt))
 available-plain s (NonIncreasing c b m) = (λ p. p .0, λ a. (a, tt, tt))
 available-plain s (Sli k) = (λ p. (p .0, p .2), λ a. (a .0, tt, a .1))
@@ -123,7 +124,7 @@ form-plain s r =
 
 -- ROOM's test
 pub size-is : (r : Reading) → length (wordsOf r) ≡ size r
-unfolding wordsOf nextWord form increasing nonIncreasing sliConditional returning long oldJump jump call everythingElse
+unfolding wordsOf nextWord form number forms increasing nonIncreasing sliConditional returning long oldJump jump call everythingElse
 size-is (Increasing c s m) = refl
 size-is (NonIncreasing c s m) = refl
 size-is (Sli k) = refl

@@ -1,24 +1,25 @@
 -- The promises about words, each under the name of its statement. Assumes nothing.
-use Prim.Native.Nat.{ℕ, zero, suc, _+_, _%_, _^_, _≤_, _<_}
+use Prim.Native.Nat.{ℕ, zero, suc, _+_, _^_, _≤_, _<_}
 use mathlib.Core.Path.{_≡_, refl, sym, ap, subst, _∙_}
 use mathlib.Core.Bool.{Bool, true, false, not}
 use mathlib.Core.List.{List, [], _∷_, _++_}
 use mathlib.Core.Option.{Option, none, some}
 use native.Mathlib.Nat.{zero-add, div-one}
 use native.Mathlib.Omega.{arith}
-use lib.Dec.{eqb, ltb}
+use lib.Dec.{ltb}
 use lib.ListN.{length, getD, drop}
 use lib.Seq.{sets, sets-eq, length-sets, drop-at}
-use borrow.Author.Tests.{not-false, ltb-false}
+use borrow.Author.Tests.{lt-ltb, le-ltb, not-false, ltb-false}
 use Rattle.word.specs.First.{choose, first}
 use Rattle.word.specs.Setting.{refusedOr, checkOf, settingCases, sizeCases}
-use Rattle.word.specs.Form.{Part, Form, fits, numbersIn, usable, inMode, increasing, nonIncreasing, sliConditional, returning, long, oldJump, jump, call, everythingElse, forms, formIn, formOf}
+use Rattle.word.specs.Parts.{Part, fits, numbersIn, fit, wordWith}
+use Rattle.word.specs.Form.{Form, usable, inMode, increasing, nonIncreasing, sliConditional, returning, long, oldJump, jump, call, everythingElse, forms, formIn, formOf}
 use Rattle.word.specs.Reading.{number, form, values, commandIn, readingOf, readOf, readAtOf}
-use Rattle.word.specs.Writing.{fit, wordWith, nextWord, wordsOf, writeCases, writeOf, outAfter}
-use Rattle.word.specs.Answers.{checkRefusal, readingRefusal, placeRefusal, writtenRefusal, writtenValues}
+use Rattle.word.specs.Writing.{nextWord, wordsOf, writeCases, writeOf, outAfter}
+use Rattle.word.specs.Answers.{checkRefusal, readingRefusal, placeRefusal, writtenRefusal, placeValues, writtenValues}
 use Rattle.word.specs.Contracts.{Writes}
 use Rattle.word.specs.Numbers.{Numbers}
-use Rattle.word.specs.Promises.{settingPlain, sizePlain, writePlain, Within, Available, size, Refused, One, ReadBack, WriteBack, Widths, Specials, OneForm}
+use Rattle.word.specs.Promises.{settingPlain, sizePlain, writePlain, Within, Available, size, sameWords, Refused, One, AtPlace, ReadBack, WriteBack, Widths, Specials, OneForm}
 use Rattle.word.specs.declared.setting.Setting.{Setting}
 use Rattle.word.specs.declared.setting.Check.the-variants as check
 use Rattle.word.specs.declared.reading.Reading.{Reading}
@@ -26,12 +27,12 @@ use Rattle.word.specs.declared.reading.Reading.the-variants.{Increasing,
 use Rattle.word.specs.declared.reading.Place.the-variants as place
 use Rattle.word.specs.declared.writing.Written.{Written}
 use Rattle.word.specs.declared.writing.Written.the-variants as written
-use Rattle.word.proofs.First.{by-test, choose-true, first-none, append-none}
+use Rattle.word.proofs.First.{by-test, choose-true, choose-false, first-none, append-none}
 use Rattle.word.proofs.Settings.{accepted, told-first, told-plain, none-fine}
 use Rattle.word.proofs.Forms.{In, here, there, by-form, the-form}
 use Rattle.word.proofs.RoundTrip.{read-by, left, next-is, form-back, command-back, numbers-fit, words-back}
 use Rattle.word.proofs.Plainly.{field-plain, form-plain, size-is, setting-agree, size-agree, write-agree}
-use Rattle.word.proofs.Writer.{by-words}
+use Rattle.word.proofs.Writer.{Past, by-words}
 use Rattle.word.proofs.Methods.{specials-plain}
 
 -- a reading that is not refused: a command, or reserved
@@ -76,8 +77,10 @@ refused =
     record {
       check = λ s a c n. told-plain check.Refused checkRefusal (λ x. refl) (settingCases s) (settingPlain s) check.Fine a (setting-agree s [] [] tt) refl c n;
       read = λ s w next a c n. told-plain Refusing readingRefusal (λ x. refl) (settingCases s) (settingPlain s) (readingOf s w next) a (setting-agree s [] [] tt) (plain s w next) c n;
-      read-at = λ s ws p a c n. told-plain place.Refused placeRefusal (λ x. refl) (settingCases s ++ sizeCases (length ws)) (settingPlain s ++ sizePlain ws) _ a (setting-agree s (sizeCases (length ws)) (sizePlain ws) (size-agree ws)) (found s ws p) c n;
-      write = λ s r out a exit c n. told-plain written.Refused writtenRefusal (λ x. refl) (settingCases s ++ writeCases s r (length out)) (settingPlain s ++ writePlain s r out) _ a (setting-agree s (writeCases s r (length out)) (writePlain s r out) (write-agree s r out)) refl (c .answer) n;
+      read-at = λ s ws p a c n. told-plain place.Refused placeRefusal (λ x. refl) (settingCases s ++ sizeCases (length ws)) (settingPlain s ++ sizePlain ws) _ a
+          (setting-agree s (sizeCases (length ws)) (sizePlain ws) (size-agree ws)) (found s ws p) c n;
+      write = λ s r out a exit c n. told-plain written.Refused writtenRefusal (λ x. refl) (settingCases s ++ writeCases s r (length out)) (settingPlain s ++ writePlain s r out) _ a
+          (setting-agree s (writeCases s r (length out)) (writePlain s r out) (write-agree s r out)) refl (c .answer) n;
       unwritten = λ s r out a exit c n e. untouched a r out exit n (c .memory) e;
     }
 
@@ -121,7 +124,8 @@ pub record Passed (s : Setting) (r : Reading) (out : List ℕ) (a : Written) : T
 passed : (s : Setting) (r : Reading) (out : List ℕ) (a : Written) → a ≡ writeOf s r (length out) → writtenRefusal a ≡ none → Passed s r out a
 unfolding writeOf writtenRefusal
 passed s r out a e h =
-    let all : first (settingCases s ++ writeCases s r (length out)) ≡ none = sym (told-first written.Refused writtenRefusal (λ x. refl) (settingCases s ++ writeCases s r (length out)) _ a refl e) ∙ h in
+    let cases = settingCases s ++ writeCases s r (length out) in
+    let all : first cases ≡ none = sym (told-first written.Refused writtenRefusal (λ x. refl) cases _ a refl e) ∙ h in
     let two = append-none (settingCases s) (writeCases s r (length out)) all in
     let field = first-none _ _ (two .1) in
     let form′ = first-none _ _ (field .1) in
@@ -184,7 +188,9 @@ read-back s r out a exit c h =
       same = λ next second x e.
           let w = wordWith (form r .word) (values r) in
           let w-0 : getD exit 0 0 ≡ w = ap (λ (l : List ℕ). getD l 0 0) over ∙ word-0 r (drop k-words out) in
-          let n-1 : k-words ≡ 2 → next ≡ wordWith (form r .next) (left r k (p .fields)) = λ t. second (sym (size-is r) ∙ t) ∙ ap (λ (l : List ℕ). getD l 1 0) over ∙ word-1 (form r .next) w (left r k (p .fields)) (drop k-words out) t in
+          let rest = left r k (p .fields) in
+          let n-1 : k-words ≡ 2 → next ≡ wordWith (form r .next) rest =
+          λ t. second (sym (size-is r) ∙ t) ∙ ap (λ (l : List ℕ). getD l 1 0) over ∙ word-1 (form r .next) w rest (drop k-words out) t in
           e ∙ ap (λ (v : ℕ). readOf s v next) w-0
           ∙ read-plain s w next (p .setting)
           ∙ read-usable s w next (form r) (form-back r k (p .fields)) (p .there)
@@ -222,13 +228,14 @@ commands s w n r e h = at-setting (first (settingCases s)) refl e
 -- such a word is accepted by the writer, and its words are those that were read
 back-again : (s : Setting) (w n : ℕ) (out : List ℕ) → w < 2 ^ 32 → (f : Form) → In f forms → fits (f .word) w ≡ true → usable s f ≡ true → first (settingCases s) ≡ none
     → (a : Written) (exit : List ℕ) → size (commandIn f w n) ≤ length out → Writes s (commandIn f w n) out a exit
-    → (writtenRefusal a ≡ none) × (exit ≡ (w ∷ choose (eqb (number (commandIn f w n)) 5) (n % 2 ^ 24 ∷ []) []) ++ drop (size (commandIn f w n)) out)
+    → (writtenRefusal a ≡ none) × (exit ≡ sameWords (commandIn f w n) w n ++ drop (size (commandIn f w n)) out)
 unfolding outAfter writtenRefusal
 back-again s w n out h f i t u d a exit space c =
     let r = commandIn f w n in
     let room : length (wordsOf r) ≤ length out = rw size-is space in
     let same : form r ≡ f = read-by w n i .same in
-    let words : a ≡ written.Words (length (wordsOf r)) = c .answer ∙ by-words s r (length out) (none-fine s d) (numbers-fit f i w n) (ap (usable s) same ∙ u) refl room in (
+    let past : Past s r = record { fine = none-fine s d; fields = numbers-fit f i w n; there = ap (usable s) same ∙ u } in
+    let words : a ≡ written.Words (length (wordsOf r)) = c .answer ∙ by-words s r (length out) past refl room in (
       ap writtenRefusal words,
       c .memory ∙ ap (λ (z : Written). outAfter z r out) words ∙ written-over r out room
           ∙ rw size-is (ap (λ (l : List ℕ). l ++ drop (size r) out) (words-back f i w n h t)),
@@ -238,9 +245,28 @@ pub write-back : WriteBack
 write-back s w next r h e k out a exit space c =
     let q = commands s w next r e k in
     subst
-    (λ (x : Reading). size x ≤ length out → Writes s x out a exit → (writtenRefusal a ≡ none) × (exit ≡ (w ∷ choose (eqb (number x) 5) (next % 2 ^ 24 ∷ []) []) ++ drop (size x) out))
+    (λ (x : Reading). size x ≤ length out → Writes s x out a exit → (writtenRefusal a ≡ none) × (exit ≡ sameWords x w next ++ drop (size x) out))
     (sym (q .is))
     (back-again s w next out h (formOf w) (q .member) (q .bits-fit) (q .there) (q .setting) a exit) space c
+
+nothing : (o : Option ℕ) → placeValues (refusedOr place.Refused o place.Past) ≡ []
+unfolding refusedOr placeValues
+nothing none = refl
+nothing (some n) = refl
+
+-- the cases of `read_at` hold none exactly if those of `read` do, and then the answer is what stands at the place
+pub at-place : AtPlace
+unfolding readOf readAtOf placeRefusal placeValues
+at-place =
+    record {
+      inside = λ s ws p a r c e h d.
+          let cases = settingCases s ++ sizeCases (length ws) in
+          let all : first cases ≡ none = sym (told-first place.Refused placeRefusal (λ x. refl) cases _ a (found s ws p) c) ∙ e in
+          let two = append-none (settingCases s) (sizeCases (length ws)) all in
+          ap placeValues (c ∙ accepted place.Refused _ all ∙ choose-true (lt-ltb _ _ h) _ _)
+          ∙ ap (λ (x : Reading). number x ∷ values x) (sym (d ∙ accepted Refusing _ (two .0)));
+      past = λ s ws p a c h. ap placeValues (c ∙ ap (refusedOr place.Refused (first (settingCases s ++ sizeCases (length ws)))) (choose-false (le-ltb _ _ h) _ _)) ∙ nothing (first (settingCases s ++ sizeCases (length ws)));
+    }
 
 pub specials : Specials
 specials level m a e =

@@ -1,7 +1,7 @@
 -- What the writer writes reads back as the same command, and what reads as a command is written back as it was. Assumes nothing.
 use Prim.Native.Nat.{ℕ, suc, _+_, _%_, _^_, _<_}
 use mathlib.Core.Path.{_≡_, refl, sym, ap, _∙_}
-use mathlib.Core.Bool.{true}
+use mathlib.Core.Bool.{Bool, true, _&&_}
 use mathlib.Core.List.{List, [], _∷_, _++_, append-nil}
 use native.Mathlib.Nat.{mod-eq-of-lt}
 use native.Mathlib.Omega.{arith}
@@ -9,11 +9,13 @@ use lib.Dec.{eqb}
 use lib.ListN.{length, drop, take-append-drop, length-drop}
 use lib.Seq.{take-all, drop-at}
 use Rattle.word.specs.First.{choose}
-use Rattle.word.specs.Form.{Part, Form, fits, numbersIn, increasing, nonIncreasing, sliConditional, returning, long, oldJump, jump, call, everythingElse, forms, formOf}
+use Rattle.word.specs.Parts.{Part, fits, numbersIn, fit, wordWith, room}
+use Rattle.word.specs.Form.{Form, increasing, nonIncreasing, sliConditional, returning, long, oldJump, jump, call, everythingElse, forms, formOf}
 use Rattle.word.specs.Reading.{number, form, values, commandIn}
-use Rattle.word.specs.Writing.{fit, wordWith, room, nextWord, wordsOf}
+use Rattle.word.specs.Writing.{nextWord, wordsOf}
 use Rattle.word.specs.declared.reading.Reading.{Reading}
 use Rattle.word.specs.declared.reading.Reading.the-variants.{Increasing, NonIncreasing, Sli, Return, Long, OldJump, Jump, Call, Reserved, Refused}
+use Rattle.word.proofs.Tests.{both}
 use Rattle.word.proofs.Parts.{hi, tiled, fixed, whole, Held, held, again, as-many, within, fit-apart}
 use Rattle.word.proofs.Forms.{In, here, there, each, by-form, the-form}
 
@@ -23,6 +25,9 @@ top [] = 0
 top (p ∷ ps) = hi p + 1
 
 -- Of every form of the table: its parts lie side by side from bit 31 down, and none of its first word is spare.
+unfoldable laidOut : Form → Bool
+laidOut f = tiled 32 (f .word) && (fixed (f .word) && (whole (f .word) && (tiled (top (f .next)) (f .next) && fixed (f .next))))
+
 pub record Laid (f : Form) : Type 0 where
   pub tiles : tiled 32 (f .word) ≡ true
   pub right : fixed (f .word) ≡ true
@@ -30,16 +35,18 @@ pub record Laid (f : Form) : Type 0 where
   pub next-tiles : tiled (top (f .next)) (f .next) ≡ true
   pub next-right : fixed (f .next) ≡ true
 
+all-laid : {f : Form} → In f forms → laidOut f ≡ true
+unfolding forms increasing nonIncreasing sliConditional returning long oldJump jump call laidOut tiled fixed whole
+all-laid i = each (λ f. laidOut f ≡ true) {fs = forms} (refl, (refl, (refl, (refl, (refl, (refl, (refl, (refl, tt)))))))) i
+
 pub laid : {f : Form} → In f forms → Laid f
-unfolding forms increasing nonIncreasing sliConditional returning long oldJump jump call tiled fixed whole
-laid i =
-    record {
-      tiles = each (λ f. tiled 32 (f .word) ≡ true) {fs = forms} (refl, (refl, (refl, (refl, (refl, (refl, (refl, (refl, tt)))))))) i;
-      right = each (λ f. fixed (f .word) ≡ true) {fs = forms} (refl, (refl, (refl, (refl, (refl, (refl, (refl, (refl, tt)))))))) i;
-      full = each (λ f. whole (f .word) ≡ true) {fs = forms} (refl, (refl, (refl, (refl, (refl, (refl, (refl, (refl, tt)))))))) i;
-      next-tiles = each (λ f. tiled (top (f .next)) (f .next) ≡ true) {fs = forms} (refl, (refl, (refl, (refl, (refl, (refl, (refl, (refl, tt)))))))) i;
-      next-right = each (λ f. fixed (f .next) ≡ true) {fs = forms} (refl, (refl, (refl, (refl, (refl, (refl, (refl, (refl, tt)))))))) i;
-    }
+unfolding laidOut
+laid {f} i =
+    let a = both (tiled 32 (f .word)) _ (all-laid i) in
+    let b = both (fixed (f .word)) _ (a .1) in
+    let c = both (whole (f .word)) _ (b .1) in
+    let d = both (tiled (top (f .next)) (f .next)) _ (c .1) in
+    record { tiles = a .0; right = b .0; full = c .0; next-tiles = d .0; next-right = d .1 }
 
 -- Of every command: its form is in the table, has room for just its numbers, and makes it of them.
 pub record Made (r : Reading) : Type 0 where
@@ -94,7 +101,7 @@ read-by w n i =
 
 -- a command has the form of the word that it is read from, and 'reserved' that of everything else
 pub form-of-command : (w n : ℕ) → form (commandIn (formOf w) w n) ≡ formOf w
-unfolding everythingElse commandIn form
+unfolding everythingElse commandIn form number forms
 form-of-command w n = by-form (λ f. form (commandIn f w n) ≡ f) w (λ f i e. read-by w n i .same) refl
 
 empty : {l : List ℕ} → length l ≡ 0 → l ≡ []

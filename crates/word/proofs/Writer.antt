@@ -12,9 +12,10 @@ use denote.Enum.Declared.{tagOf}
 use borrow.Author.Tests.{lt-ltb, le-ltb}
 use Rattle.word.specs.First.{_when_, first}
 use Rattle.word.specs.Setting.{checkOf, refusedOr, FIELD, FORM, ROOM}
-use Rattle.word.specs.Form.{increasing, nonIncreasing, sliConditional, returning, long, oldJump, jump, call, everythingElse, usable}
-use Rattle.word.specs.Reading.{form, values}
-use Rattle.word.specs.Writing.{fit, wordWith, room, nextWord, wordsOf, writeCases, writeOf, outAfter}
+use Rattle.word.specs.Form.{increasing, nonIncreasing, sliConditional, returning, long, oldJump, jump, call, everythingElse, usable, forms}
+use Rattle.word.specs.Reading.{number, form, values}
+use Rattle.word.specs.Parts.{fit, wordWith, room}
+use Rattle.word.specs.Writing.{nextWord, wordsOf, writeCases, writeOf, outAfter}
 use Rattle.word.specs.Contracts.{Writes}
 use Rattle.word.specs.declared.setting.Refusal.{Refusal}
 use Rattle.word.specs.declared.setting.Setting.{Setting}
@@ -31,7 +32,7 @@ others = 0 ∷ 1 ∷ 2 ∷ 3 ∷ 5 ∷ 6 ∷ 7 ∷ 8 ∷ 9 ∷ []
 
 -- a command that is no long form has one word, and a long form's second is its count
 pub one-word : (r : Reading) → OneOf others (tagOf the-type r) → wordsOf r ≡ wordWith (form r .word) (values r) ∷ []
-unfolding wordsOf nextWord form increasing nonIncreasing sliConditional returning oldJump jump call everythingElse
+unfolding wordsOf nextWord form number forms increasing nonIncreasing sliConditional returning oldJump jump call everythingElse
 one-word (Increasing c s m) h = refl
 one-word (NonIncreasing c s m) h = refl
 one-word (Sli k) h = refl
@@ -44,8 +45,14 @@ one-word Reserved h = refl
 one-word (Refused r) h = refl
 
 pub two-words : {r : Reading} {s m c : ℕ} → r ≡ Long s m c → wordsOf r ≡ wordWith (form (Long s m c) .word) (values (Long s m c)) ∷ c ∷ []
-unfolding wordsOf nextWord form values long wordWith room
+unfolding wordsOf nextWord form number forms values long wordWith room
 two-words {r} {s} {m} {c} e = rw e (ap (λ (x : ℕ). wordWith (long .word) (s ∷ m ∷ c ∷ []) ∷ x ∷ []) (omega arith))
+
+-- what a command has passed before the test of the room
+pub record Past (s : Setting) (r : Reading) : Type 0 where
+  pub fine : checkOf s ≡ check.Fine
+  pub fields : fit (form r .word ++ form r .next) (values r) ≡ true
+  pub there : usable s (form r) ≡ true
 
 -- the answer, by the first test that decides it
 module _ (s : Setting) (r : Reading) (space : ℕ) where
@@ -53,28 +60,31 @@ module _ (s : Setting) (r : Reading) (space : ℕ) where
   unfolding writeOf
   by-setting x e = refused-by s (writeCases s r space) written.Refused _ x e
 
-  module _ (fine : checkOf s ≡ check.Fine) where
-    pub by-field : fit (form r .word ++ form r .next) (values r) ≡ false → writeOf s r space ≡ written.Refused (record { number = FIELD })
+  pub by-field : checkOf s ≡ check.Fine → fit (form r .word ++ form r .next) (values r) ≡ false → writeOf s r space ≡ written.Refused (record { number = FIELD })
+  unfolding writeOf
+  by-field fine f = passed-by s (writeCases s r space) written.Refused _ fine ∙ hit FIELD _ written.Refused _ (ap not f)
+
+  pub by-form : checkOf s ≡ check.Fine → fit (form r .word ++ form r .next) (values r) ≡ true → usable s (form r) ≡ false → writeOf s r space ≡ written.Refused (record { number = FORM })
+  unfolding writeOf
+  by-form fine f u =
+      passed-by s (writeCases s r space) written.Refused _ fine
+      ∙ miss FIELD _ written.Refused _ (ap not f)
+      ∙ hit FORM _ written.Refused _ (ap not u)
+
+  module _ (p : Past s r) {ws : List ℕ} (words : wordsOf r ≡ ws) where
+    past : writeOf s r space ≡ refusedOr written.Refused (first (ROOM when ltb space (length ws) ∷ [])) (written.Words (length ws))
     unfolding writeOf
-    by-field f = passed-by s (writeCases s r space) written.Refused _ fine ∙ hit FIELD _ written.Refused _ (ap not f)
+    past =
+        passed-by s (writeCases s r space) written.Refused _ (p .fine)
+        ∙ miss FIELD _ written.Refused _ (ap not (p .fields))
+        ∙ miss FORM _ written.Refused _ (ap not (p .there))
+        ∙ ap (λ (l : List ℕ). refusedOr written.Refused (first (ROOM when ltb space (length l) ∷ [])) (written.Words (length l))) words
 
-    module _ (fields : fit (form r .word ++ form r .next) (values r) ≡ true) where
-      pub by-form : usable s (form r) ≡ false → writeOf s r space ≡ written.Refused (record { number = FORM })
-      unfolding writeOf
-      by-form u = passed-by s (writeCases s r space) written.Refused _ fine ∙ miss FIELD _ written.Refused _ (ap not fields) ∙ hit FORM _ written.Refused _ (ap not u)
+    pub by-room : space < length ws → writeOf s r space ≡ written.Refused (record { number = ROOM })
+    by-room h = past ∙ hit ROOM [] written.Refused _ (lt-ltb _ _ h)
 
-      module _ (there : usable s (form r) ≡ true) {ws : List ℕ} (words : wordsOf r ≡ ws) where
-        past : writeOf s r space ≡ refusedOr written.Refused (first (ROOM when ltb space (length ws) ∷ [])) (written.Words (length ws))
-        unfolding writeOf
-        past =
-            passed-by s (writeCases s r space) written.Refused _ fine ∙ miss FIELD _ written.Refused _ (ap not fields) ∙ miss FORM _ written.Refused _ (ap not there)
-            ∙ ap (λ (l : List ℕ). refusedOr written.Refused (first (ROOM when ltb space (length l) ∷ [])) (written.Words (length l))) words
-
-        pub by-room : space < length ws → writeOf s r space ≡ written.Refused (record { number = ROOM })
-        by-room h = past ∙ hit ROOM [] written.Refused _ (lt-ltb _ _ h)
-
-        pub by-words : length ws ≤ space → writeOf s r space ≡ written.Words (length ws)
-        by-words h = past ∙ miss ROOM [] written.Refused _ (le-ltb _ _ h) ∙ no-more written.Refused _
+    pub by-words : length ws ≤ space → writeOf s r space ≡ written.Words (length ws)
+    by-words h = past ∙ miss ROOM [] written.Refused _ (le-ltb _ _ h) ∙ no-more written.Refused _
 
 -- an answer with the output that goes with it
 module _ (s : Setting) (r : Reading) (out : List ℕ) where

@@ -1,45 +1,15 @@
 -- The paper's 'Command words' as a table: a row a form, with what its bits are, from which level up, in which
 -- mode, and whether SLI must be enabled.
-use Prim.Native.Nat.{ℕ, _+_, _-_, _*_, _/_, _%_, _^_}
+use Prim.Native.Nat.{ℕ}
 use mathlib.Core.Bool.{Bool, true, false, not, _&&_, _||_}
 use mathlib.Core.List.{List, [], _∷_}
 use lib.Dec.{eqb, leb}
 use lib.ListN.{getD}
 use Rattle.word.specs.First.{choose}
+use Rattle.word.specs.Parts.{Part, is, holds, address, spare, fits}
 use Rattle.word.specs.declared.setting.Setting.{Setting}
 use Rattle.word.specs.declared.reading.Reading.{Reading}
 use Rattle.word.specs.declared.reading.Reading.the-variants.{Increasing, NonIncreasing, Sli, Return, Long, OldJump, Jump, Call, Reserved}
-
--- bits `hi` to `lo` of a word, as a number
-abbrev pub bits : ℕ → ℕ → ℕ → ℕ
-bits hi lo w = w / 2 ^ lo % 2 ^ (hi + 1 - lo)
-
--- A part of a word, bits `hi` to `lo`.
-pub data Part : Type 0 where
-  -- they are this number: "Bits 31-29 = 000"
-  is : (hi lo value : ℕ) → Part
-  -- they hold a number: "Count bits 28-18"
-  holds : (hi lo : ℕ) → Part
-  -- they hold a method or an address, whose other bits are 0: "target bits 28-2"
-  address : (hi lo : ℕ) → Part
-  -- they "are ignored and written as 0"
-  spare : (hi lo : ℕ) → Part
-
--- whether the bits of a word are what the parts say
-unfoldable pub fits : List Part → ℕ → Bool
-fits [] w = true
-fits (is hi lo v ∷ ps) w = eqb (bits hi lo w) v && fits ps w
-fits (holds hi lo ∷ ps) w = fits ps w
-fits (address hi lo ∷ ps) w = fits ps w
-fits (spare hi lo ∷ ps) w = fits ps w
-
--- the numbers that a word holds
-unfoldable pub numbersIn : List Part → ℕ → List ℕ
-numbersIn [] w = []
-numbersIn (is hi lo v ∷ ps) w = numbersIn ps w
-numbersIn (holds hi lo ∷ ps) w = bits hi lo w ∷ numbersIn ps w
-numbersIn (address hi lo ∷ ps) w = bits hi lo w * 2 ^ lo ∷ numbersIn ps w
-numbersIn (spare hi lo ∷ ps) w = numbersIn ps w
 
 -- In which mode a form may be used.
 pub data Where : Type 0 where

@@ -1,5 +1,6 @@
 pub mod First
 pub mod Setting
+pub mod Parts
 pub mod Form
 pub mod Reading
 pub mod Writing

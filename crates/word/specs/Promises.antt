@@ -1,6 +1,6 @@
 -- The promises about words, each a statement that is proved under its own name in proofs/. They speak of the public
 -- functions through their contracts (Contracts.antt): of every answer and every output that a contract allows.
-use Prim.Native.Nat.{ℕ, _%_, _≤_, _<_}
+use Prim.Native.Nat.{ℕ, _+_, _%_, _≤_, _<_}
 use mathlib.Core.Path.{_≡_}
 use mathlib.Core.Bool.{Bool, true}
 use mathlib.Core.List.{List, [], _∷_, _++_}
@@ -10,9 +10,10 @@ use lib.Dec.{eqb}
 use lib.ListN.{length, getD, drop}
 use Rattle.word.specs.First.{choose, Plain, _if_, FirstIs}
 use Rattle.word.specs.Setting.{LEVEL, MODE, SLI, SIZE, FIELD, ROOM, FORM}
-use Rattle.word.specs.Form.{fits, forms, everythingElse}
-use Rattle.word.specs.Reading.{number}
-use Rattle.word.specs.Answers.{checkRefusal, readingRefusal, placeRefusal, writtenRefusal, writtenValues}
+use Rattle.word.specs.Parts.{fits}
+use Rattle.word.specs.Form.{forms, everythingElse}
+use Rattle.word.specs.Reading.{number, values}
+use Rattle.word.specs.Answers.{checkRefusal, readingRefusal, placeRefusal, writtenRefusal, placeValues, writtenValues}
 use Rattle.word.specs.Contracts.{Checks, Reads, ReadsAt, Writes, Presents}
 use Rattle.word.specs.declared.setting.Level.{Level}
 use Rattle.word.specs.declared.setting.Setting.{Setting}
@@ -130,7 +131,11 @@ ReadBack =
     → Echo s r out a exit
 
 -- Promise 2, second half: words that read as a command (numbers 1 to 8) are written back, at that setting and into every
--- output long enough, as the same words followed by the old tail, but for the upper eight bits of a long count.
+-- output long enough, as the same words followed by the old tail, but for the upper eight bits of a long count: the long
+-- form, number 5, has a second word, the low 24 bits of the next.
+abbrev pub sameWords : Reading → ℕ → ℕ → List ℕ
+sameWords r w next = w ∷ choose (eqb (number r) 5) (next % 0x1000000 ∷ []) []
+
 abbrev pub WriteBack : Type 0
 WriteBack =
     (s : Setting) (w next : ℕ) (r : Reading)
@@ -140,7 +145,19 @@ WriteBack =
     → (out : List ℕ) (a : Written) (exit : List ℕ)
     → size r ≤ length out
     → Writes s r out a exit
-    → (writtenRefusal a ≡ none) × (exit ≡ (w ∷ choose (eqb (number r) 5) (next % 0x1000000 ∷ []) []) ++ drop (size r) out)
+    → (writtenRefusal a ≡ none) × (exit ≡ sameWords r w next ++ drop (size r) out)
+
+-- What stands at a place of lent words is what `read` reads there, with the word after it, or 0 after the last; past the
+-- last word nothing stands.
+pub record AtPlace : Type 0 where
+  pub inside :
+      (s : Setting) (ws : List ℕ) (p : ℕ) (a : Place) (r : Reading)
+      → ReadsAt s ws p a
+      → placeRefusal a ≡ none
+      → p < length ws
+      → Reads s (getD ws p 0) (getD ws (p + 1) 0) r
+      → placeValues a ≡ number r ∷ values r
+  pub past : (s : Setting) (ws : List ℕ) (p : ℕ) (a : Place) → ReadsAt s ws p a → length ws ≤ p → placeValues a ≡ []
 
 -- Every number of a reading is within its width.
 abbrev pub Widths : Type 0

@@ -1,11 +1,12 @@
 -- What a word reads as.
-use Prim.Native.Nat.{ℕ, _+_}
+use Prim.Native.Nat.{ℕ, _+_, _-_}
 use mathlib.Core.List.{List, [], _∷_, _++_}
 use lib.Dec.{ltb}
 use lib.ListN.{length, getD}
 use Rattle.word.specs.First.{choose, first}
 use Rattle.word.specs.Setting.{settingCases, sizeCases, refusedOr}
-use Rattle.word.specs.Form.{Form, formOf, numbersIn, usable, increasing, nonIncreasing, sliConditional, returning, long, oldJump, jump, call, everythingElse}
+use Rattle.word.specs.Parts.{numbersIn}
+use Rattle.word.specs.Form.{Form, everythingElse, forms, formOf, usable}
 use Rattle.word.specs.declared.setting.Setting.{Setting}
 use Rattle.word.specs.declared.reading.Reading.{Reading}
 use Rattle.word.specs.declared.reading.Reading.the-variants.{Increasing, NonIncreasing, Sli, Return, Long, OldJump, Jump, Call, Reserved, Refused}
@@ -25,18 +26,9 @@ number (Call t) = 8
 number Reserved = 9
 number (Refused r) = 10
 
--- the form of a command; neither 'reserved' nor a refusal has one
+-- a command's form: the row of the table that has its number, from 1; neither 'reserved' nor a refusal has one
 unfoldable pub form : Reading → Form
-form (Increasing c s m) = increasing
-form (NonIncreasing c s m) = nonIncreasing
-form (Sli k) = sliConditional
-form Return = returning
-form (Long s m c) = long
-form (OldJump t) = oldJump
-form (Jump t) = jump
-form (Call t) = call
-form Reserved = everythingElse
-form (Refused r) = everythingElse
+form r = getD forms (number r - 1) everythingElse
 
 -- the numbers of a reading, in the order in which the words hold them
 unfoldable pub values : Reading → List ℕ

@@ -2,6 +2,7 @@
 ghost use mathlib.Core.Path.{_≡_};
 ghost use Prim.Native.Nat.{_+_, _<_};
 ghost use lib.ListN.{getD};
+ghost use Rattle.word.specs.Parts.{bits};
 ghost use Rattle.word.specs.Form.{formOf, usable};
 ghost use Rattle.word.specs.Reading.{form, commandIn, readingOf};
 ghost use Rattle.word.specs.Contracts.{Reads, ReadsAt};
@@ -115,6 +116,9 @@ fn command(word: u32, next: u32) -> Reading
     ensures { λ r. ⌜ r ≡ commandIn (formOf word) word next ⌝ }
 {
     let low = word & 3;
+    if low == 0 {
+        return by_upper_bits(word, next);
+    }
     if low == 1 {
         return Reading::Jump {
             target: word & 0xffff_fffc,
@@ -125,9 +129,14 @@ fn command(word: u32, next: u32) -> Reading
             target: word & 0xffff_fffc,
         };
     }
-    if low == 3 {
-        return Reading::Reserved;
-    }
+    Reading::Reserved
+}
+
+// The same where bits 1-0 are 00.
+fn by_upper_bits(word: u32, next: u32) -> Reading
+    requires { ⌜ bits 1 0 word ≡ 0 ⌝ }
+    ensures { λ r. ⌜ r ≡ commandIn (formOf word) word next ⌝ }
+{
     let top = word >> 29;
     if top == 1 {
         return Reading::OldJump {
@@ -135,26 +144,43 @@ fn command(word: u32, next: u32) -> Reading
         };
     }
     let middle = (word >> 16) & 3;
+    if middle == 0 {
+        return run(word, next);
+    }
+    by_upper_half(word, next)
+}
+
+// A word with bits 17-16 = 00 that is no old jump: a run of methods, by bits 31-29.
+fn run(word: u32, next: u32) -> Reading
+    requires { ⌜ (bits 1 0 word ≡ 0) × (bits 17 16 word ≡ 0) × (bits 31 29 word ≡ 1 → ⊥) ⌝ }
+    ensures { λ r. ⌜ r ≡ commandIn (formOf word) word next ⌝ }
+{
+    let top = word >> 29;
+    let count = (word >> 18) & 0x7ff;
     let subchannel = (word >> 13) & 7;
     let method = word & 0x1ffc;
-    if middle == 0 {
-        let count = (word >> 18) & 0x7ff;
-        if top == 0 {
-            return Reading::Increasing {
-                count,
-                subchannel,
-                method,
-            };
-        }
-        if top == 2 {
-            return Reading::NonIncreasing {
-                count,
-                subchannel,
-                method,
-            };
-        }
-        return Reading::Reserved;
+    if top == 0 {
+        return Reading::Increasing {
+            count,
+            subchannel,
+            method,
+        };
     }
+    if top == 2 {
+        return Reading::NonIncreasing {
+            count,
+            subchannel,
+            method,
+        };
+    }
+    Reading::Reserved
+}
+
+// A word with other bits 17-16 that is no old jump: what the paper gives by its upper half.
+fn by_upper_half(word: u32, next: u32) -> Reading
+    requires { ⌜ (bits 1 0 word ≡ 0) × (bits 17 16 word ≡ 0 → ⊥) × (bits 31 29 word ≡ 1 → ⊥) ⌝ }
+    ensures { λ r. ⌜ r ≡ commandIn (formOf word) word next ⌝ }
+{
     let upper = word >> 16;
     if upper == 1 {
         if word & 0xf == 0 {
@@ -166,8 +192,8 @@ fn command(word: u32, next: u32) -> Reading
     }
     if upper == 3 {
         return Reading::Long {
-            subchannel,
-            method,
+            subchannel: (word >> 13) & 7,
+            method: word & 0x1ffc,
             count: next & 0xff_ffff,
         };
     }

@@ -5,7 +5,7 @@ ghost use mathlib.Core.List.{_++_};
 ghost use Prim.Native.Nat.{_+_, _*_, _^_, _%_, _<_};
 ghost use lib.Dec.{ltb, eqb};
 ghost use Rattle.word.specs.Reading.{form, values};
-ghost use Rattle.word.specs.Writing.{fit, wordWith};
+ghost use Rattle.word.specs.Parts.{fit, wordWith};
 ghost use Rattle.word.specs.Contracts.{Writes};
 use crate::reading::Reading;
 use crate::reading::available;

@@ -18,13 +18,13 @@ struct Told {
     c: u32,
 }
 
-pub fn right_read(q: [u32; 14]) -> bool {
+pub(crate) fn right_read(q: [u32; 14]) -> bool {
     let told = told_reading(word::read(setting_of(q), q[3], q[4]));
     same(told, q[5], q[6], q[7], q[8])
 }
 
 // `space` lends the words: the record's four, and zeros after them.
-pub fn right_read_at(q: [u32; 14], space: &mut [u32]) -> bool {
+pub(crate) fn right_read_at(q: [u32; 14], space: &mut [u32]) -> bool {
     put(space, 0, q[6]);
     put(space, 1, q[7]);
     put(space, 2, q[8]);
@@ -52,7 +52,7 @@ fn read_in(setting: Setting, space: &[u32], lent: u32, place: usize) -> Place {
     word::read_at(setting, &space[..lent], place)
 }
 
-pub fn right_write(q: [u32; 14]) -> bool {
+pub(crate) fn right_write(q: [u32; 14]) -> bool {
     let mut out = BEFORE;
     let command = command_of(q[3], q[4], q[5], q[6]);
     let told = told_written(write_in(setting_of(q), command, &mut out, q[7]));
@@ -72,7 +72,7 @@ fn same_four(out: [u32; 4], q: [u32; 14]) -> bool {
     out[0] == q[10] && out[1] == q[11] && out[2] == q[12] && out[3] == q[13]
 }
 
-pub fn right_present(q: [u32; 14]) -> bool {
+pub(crate) fn right_present(q: [u32; 14]) -> bool {
     let level = Level { number: q[0] };
     word::present(level, q[1]) == (q[2] == 1)
 }

@@ -5,7 +5,7 @@ use word::MOST_WORDS;
 use word::Mode;
 use word::Refusal;
 
-pub fn constants() {
+pub(crate) fn constants() {
     expect(Level::NV04.number == 0);
     expect(Level::NV10.number == 1);
     expect(Level::NV11.number == 2);

@@ -17,7 +17,7 @@ pub struct Record {
 }
 
 // The next record; `End` where the input ends, also in the middle of a record.
-pub fn next_record() -> Record {
+pub(crate) fn next_record() -> Record {
     let kind = next_kind();
     let count = word_count(kind);
     let mut bytes = [0u8; 56];

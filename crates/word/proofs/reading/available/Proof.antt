@@ -1,13 +1,13 @@
 use mathlib.Core.Bool.{and-true, and-false}
 use lib.Dec.{leb·zero}
 use borrow.Author.Needs.{needs}
-use Rattle.word.specs.Form.{usable, inMode, increasing, nonIncreasing, sliConditional, returning, long, oldJump, jump, call, everythingElse}
-use Rattle.word.specs.Reading.{form}
+use Rattle.word.specs.Form.{usable, inMode, increasing, nonIncreasing, sliConditional, returning, long, oldJump, jump, call, everythingElse, forms}
+use Rattle.word.specs.Reading.{number, form}
 use Rattle.word.proofs.reading.available.Statement.{statement}
 use Rattle.word.proofs.reading.available.Tie as tie
 
 pub available-spec : {M : Type 1} → statement M
-unfolding usable inMode form increasing nonIncreasing sliConditional returning long oldJump jump call everythingElse
+unfolding usable inMode form number forms increasing nonIncreasing sliConditional returning long oldJump jump call everythingElse
 available-spec =
     tie.close
     (tie.spec

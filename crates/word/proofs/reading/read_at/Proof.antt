@@ -25,8 +25,9 @@ fine c = sym (c .before .before .check .ensures) ∙ c .enum-told .given .1
 abbrev found : Setting → List ℕ → ℕ → Place
 found s ws p = choose (ltb p (length ws)) (Word (readingOf s (getD ws p 0) (getD ws (p + 1) 0))) Past
 
-passed : (c : tie.Else1) → readAtOf (c .before .before .before .before .before .args .setting) (c .before .before .before .before .before .args .words .now) (c .before .before .before .before .before .args .place)
-    ≡ found (c .before .before .before .before .before .args .setting) (c .before .before .before .before .before .args .words .now) (c .before .before .before .before .before .args .place)
+passed :
+    (c : tie.Else1)
+    → let a = c .before .before .before .before .before .args in readAtOf (a .setting) (a .words .now) (a .place) ≡ found (a .setting) (a .words .now) (a .place)
 unfolding readAtOf refusedOr first
 passed c =
     let a = c .before .before .before .before .before .args in

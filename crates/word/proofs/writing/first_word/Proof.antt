@@ -6,9 +6,9 @@ use native.Mathlib.Omega.{arith}
 use lib.Bits.{bitOr, or-shifted, or-shifted-r}
 use lib.Pow.{shl-exact}
 use borrow.Author.Needs.{needs}
-use Rattle.word.specs.Form.{increasing, nonIncreasing, sliConditional, returning, long, oldJump, jump, call, everythingElse}
-use Rattle.word.specs.Reading.{form, values}
-use Rattle.word.specs.Writing.{fit, wordWith}
+use Rattle.word.specs.Form.{increasing, nonIncreasing, sliConditional, returning, long, oldJump, jump, call, everythingElse, forms}
+use Rattle.word.specs.Reading.{number, form, values}
+use Rattle.word.specs.Parts.{fit, wordWith}
 use Rattle.word.specs.Promises.{Within}
 use Rattle.word.specs.declared.reading.Reading.{Reading}
 use Rattle.word.proofs.Plainly.{field-plain}
@@ -24,7 +24,7 @@ or-low : (t b : ℕ) → t ≡ t / 4 * 4 → b < 4 → bitOr t b ≡ t + b
 or-low t b e h = ap (λ (x : ℕ). bitOr x b) e ∙ or-shifted (t / 4) 2 b h ∙ ap (λ (x : ℕ). x + b) (sym e)
 
 pub first-word-spec : {M : Type 1} → statement M
-unfolding wordWith form values increasing nonIncreasing sliConditional returning long oldJump jump call everythingElse
+unfolding wordWith form number forms values increasing nonIncreasing sliConditional returning long oldJump jump call everythingElse
 first-word-spec =
     tie.close
     (tie.spec

@@ -5,11 +5,10 @@ use mathlib.Core.List.{[], _∷_, _++_}
 use borrow.Author.Needs.{needs}
 use borrow.Author.Tests.{not-true, not-false}
 use Rattle.word.specs.Setting.{checkOf}
-use Rattle.word.specs.Form.{usable}
 use Rattle.word.specs.Reading.{form, values}
-use Rattle.word.specs.Writing.{fit}
+use Rattle.word.specs.Parts.{fit}
 use Rattle.word.specs.declared.setting.Check.the-variants as check
-use Rattle.word.proofs.Writer.{one-word, two-words, by-setting, by-field, by-form, by-room, by-words, refused, wrote}
+use Rattle.word.proofs.Writer.{Past, one-word, two-words, by-setting, by-field, by-form, by-room, by-words, refused, wrote}
 use Rattle.word.proofs.writing.write.Statement.{statement}
 use Rattle.word.proofs.writing.write.Tie as tie
 
@@ -20,8 +19,13 @@ fine c = sym (c .before .before .check .ensures) ∙ c .enum-told .given .1
 fields : (c : tie.Else1) → let r = c .before .before .before .before .before .before .args .command in fit (form r .word ++ form r .next) (values r) ≡ true
 fields c = sym (c .before .fields-fit .ensures) ∙ not-false _ (c .if1 .left)
 
-there : (c : tie.Else2) → let a = c .before .before .before .before .before .before .before .before .args in usable (a .setting) (form (a .command)) ≡ true
-there c = sym (c .before .available .ensures) ∙ not-false _ (c .if2 .left)
+past : (c : tie.Else2) → let a = c .before .before .before .before .before .before .before .before .args in Past (a .setting) (a .command)
+past c =
+    record {
+      fine = fine (c .before .before .before .before);
+      fields = fields (c .before .before);
+      there = sym (c .before .available .ensures) ∙ not-false _ (c .if2 .left);
+    }
 
 pub write-spec : {M : Type 1} → statement M
 write-spec =
@@ -34,21 +38,23 @@ write-spec =
     (λ c κs. search needs)
     (λ c. refused _ _ _ _ (by-field _ _ _ (fine (c .before .before)) (sym (c .before .fields-fit .ensures) ∙ not-true _ (c .if1 .taken))))
     (λ c κs. search needs)
-    (λ c. refused _ _ _ _ (by-form _ _ _ (fine (c .before .before .before .before)) (fields (c .before .before)) (sym (c .before .available .ensures) ∙ not-true _ (c .if2 .taken))))
+    (λ c.
+    refused _ _ _ _
+    (by-form _ _ _ (fine (c .before .before .before .before)) (fields (c .before .before)) (sym (c .before .available .ensures) ∙ not-true _ (c .if2 .taken))))
     (λ c. search needs)
-    (λ c. refused _ _ _ _ (by-room _ _ _ (fine (c .before .before .before .before .before .before)) (fields (c .before .before .before .before)) (there (c .before .before)) (one-word _ (c .before .match2 .keys2)) (c .if3 .taken)))
-    (λ c κs. fields (c .before .before .before .before))
+    (λ c. refused _ _ _ _ (by-room _ _ _ (past (c .before .before)) (one-word _ (c .before .match2 .keys2)) (c .if3 .taken)))
+    (λ c κs. past (c .before .before) .fields)
     (λ c. search needs)
     (λ c. search needs)
     (λ c.
     let one = one-word _ (c .before .before .match2 .keys2) ∙ ap (λ (w : ℕ). w ∷ []) (sym (c .first-word .ensures)) in
-    wrote _ _ _ one (by-words _ _ _ (fine (c .before .before .before .before .before .before .before)) (fields (c .before .before .before .before .before)) (there (c .before .before .before)) one (c .before .if3 .left)))
-    (λ c. refused _ _ _ _ (by-room _ _ _ (fine (c .before .before .before .before .before .before .before .before)) (fields (c .before .before .before .before .before .before)) (there (c .before .before .before .before)) (two-words (c .before .before .command .given .1)) (c .if4 .taken)))
-    (λ c κs. rw (c .before .before .command .given .1) at (fields (c .before .before .before .before .before .before)))
+    wrote _ _ _ one (by-words _ _ _ (past (c .before .before .before)) one (c .before .if3 .left)))
+    (λ c. refused _ _ _ _ (by-room _ _ _ (past (c .before .before .before .before)) (two-words (c .before .before .command .given .1)) (c .if4 .taken)))
+    (λ c κs. rw (c .before .before .command .given .1) at (past (c .before .before .before .before) .fields))
     (λ c. search needs)
     (λ c. search needs)
     (λ c. search needs)
     (λ c.
     let n = c .before .before .before .command .given .0 .1 .1 .0 in
     let two = two-words (c .before .before .before .command .given .1) ∙ ap (λ (w : ℕ). w ∷ n ∷ []) (sym (c .first-word2 .ensures)) in
-    wrote _ _ _ two (by-words _ _ _ (fine (c .before .before .before .before .before .before .before .before .before)) (fields (c .before .before .before .before .before .before .before)) (there (c .before .before .before .before .before)) two (c .before .if4 .left))))
+    wrote _ _ _ two (by-words _ _ _ (past (c .before .before .before .before .before)) two (c .before .if4 .left))))

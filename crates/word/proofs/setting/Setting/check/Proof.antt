@@ -15,5 +15,9 @@ check-spec =
     (λ c κs. search needs)
     (λ c. rw (le-ltb _ _ (c .before .before .if1 .left), sym (c .before .no-mode .ensures) ∙ c .if2 .taken))
     (λ c κs. search needs)
-    (λ c. rw (le-ltb _ _ (c .before .before .before .before .if1 .left), sym (c .before .before .before .no-mode .ensures) ∙ c .before .before .if2 .left, sym (c .before .no-sli .ensures) ∙ c .if3 .taken))
-    (λ c. rw (le-ltb _ _ (c .before .before .before .before .if1 .left), sym (c .before .before .before .no-mode .ensures) ∙ c .before .before .if2 .left, sym (c .before .no-sli .ensures) ∙ c .if3 .left)))
+    (λ c.
+    let two = c .before .before in
+    rw (le-ltb _ _ (two .before .before .if1 .left), sym (two .before .no-mode .ensures) ∙ two .if2 .left, sym (c .before .no-sli .ensures) ∙ c .if3 .taken))
+    (λ c.
+    let two = c .before .before in
+    rw (le-ltb _ _ (two .before .before .if1 .left), sym (two .before .no-mode .ensures) ∙ two .if2 .left, sym (c .before .no-sli .ensures) ∙ c .if3 .left)))
