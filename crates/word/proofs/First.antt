@@ -23,6 +23,10 @@ pub choose-false : {t : Bool} → t ≡ false → {A : Type 0} (x y : A) → cho
 unfolding choose
 choose-false e x y = rw e
 
+-- two that are both the same are equal: what a contract by equation allows is one outcome
+pub one-outcome : {A : Type 0} {x y v : A} → x ≡ v → y ≡ v → x ≡ y
+one-outcome p q = p ∙ sym q
+
 -- the first of two lists together is the first of the one, else that of the other
 unfoldable pub orElse : Option ℕ → Option ℕ → Option ℕ
 orElse none b = b

@@ -46,7 +46,7 @@ whole (holds h l ∷ ps) = whole ps
 whole (address h l ∷ ps) = whole ps
 whole (spare h l ∷ ps) = false
 
--- what that says of the first part
+-- what lying side by side says of the first part
 pub record Tile (top : ℕ) (p : Part) (ps : List Part) : Type 0 where
   pub ends : hi p + 1 ≡ top
   pub split-at : top ≡ (hi p + 1 - lo p) + lo p

@@ -27,7 +27,7 @@ use Rattle.word.specs.declared.reading.Reading.the-variants.{Increasing,
 use Rattle.word.specs.declared.reading.Place.the-variants as place
 use Rattle.word.specs.declared.writing.Written.{Written}
 use Rattle.word.specs.declared.writing.Written.the-variants as written
-use Rattle.word.proofs.First.{by-test, choose-true, choose-false, first-none, append-none}
+use Rattle.word.proofs.First.{one-outcome, by-test, choose-true, choose-false, first-none, append-none}
 use Rattle.word.proofs.Settings.{accepted, told-first, told-plain, none-fine}
 use Rattle.word.proofs.Forms.{In, here, there, by-form, the-form}
 use Rattle.word.proofs.RoundTrip.{read-by, left, next-is, form-back, command-back, numbers-fit, words-back}
@@ -87,13 +87,13 @@ refused =
 pub one : One
 one =
     record {
-      check = λ s a b p q. p ∙ sym q;
-      read = λ s w next a b p q. p ∙ sym q;
-      read-at = λ s ws i a b p q. p ∙ sym q;
+      check = λ s a b p q. one-outcome p q;
+      read = λ s w next a b p q. one-outcome p q;
+      read-at = λ s ws i a b p q. one-outcome p q;
       write = λ s r out a b x y p q.
-          let e = p .answer ∙ sym (q .answer) in
-          (e, p .memory ∙ ap (λ (z : Written). outAfter z r out) e ∙ sym (q .memory));
-      present = λ level m a b p q. p ∙ sym q;
+          let e = one-outcome (p .answer) (q .answer) in
+          (e, one-outcome (p .memory ∙ ap (λ (z : Written). outAfter z r out) e) (q .memory));
+      present = λ level m a b p q. one-outcome p q;
     }
 
 pub numbers : Numbers

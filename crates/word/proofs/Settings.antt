@@ -5,9 +5,9 @@ use mathlib.Core.Bool.{Bool, true, false}
 use mathlib.Core.List.{List, [], _∷_, _++_}
 use mathlib.Core.Logic.{_↔_}
 use mathlib.Core.Option.{Option, none, some}
-use native.Mathlib.Omega.{arith}
 use Rattle.word.specs.First.{Case, _when_, first, choose, Plain, FirstIs}
 use Rattle.word.specs.Setting.{settingCases, refusedOr, checkOf}
+use Rattle.word.specs.Answers.{checkRefusal}
 use Rattle.word.specs.declared.setting.Refusal.{Refusal}
 use Rattle.word.specs.declared.setting.Setting.{Setting}
 use Rattle.word.specs.declared.setting.Check.the-variants.{Fine, Refused}
@@ -42,7 +42,13 @@ module _ {A : Type 0} (refuse : Refusal → A) (tells : A → Option ℕ) (numbe
   pub told-first : (cs : List Case) (a x : A) → tells a ≡ none → x ≡ refusedOr refuse (first cs) a → tells x ≡ first cs
   told-first cs a x h e = ap tells e ∙ told a h (first cs)
 
-  pub told-plain : (cs : List Case) (ps : List Plain) (a x : A) → Agree cs ps → tells a ≡ none → x ≡ refusedOr refuse (first cs) a → (n : ℕ) → tells x ≡ some n ↔ FirstIs ps n
+  pub told-plain :
+      (cs : List Case) (ps : List Plain) (a x : A)
+      → Agree cs ps
+      → tells a ≡ none
+      → x ≡ refusedOr refuse (first cs) a
+      → (n : ℕ)
+      → tells x ≡ some n ↔ FirstIs ps n
   told-plain cs ps a x g h e n =
       let t = told-first cs a x h e in
       let f = first-is cs ps g n in
@@ -53,21 +59,18 @@ module _ (s : Setting) where
   unfolding checkOf refusedOr
   none-fine e = rw e
 
+  -- the check tells the first of the setting's cases that holds
+  check-first : checkRefusal (checkOf s) ≡ first (settingCases s)
+  unfolding checkOf checkRefusal
+  check-first = told-first Refused checkRefusal (λ x. refl) (settingCases s) Fine (checkOf s) refl refl
+
   refused-first : (x : Refusal) → checkOf s ≡ Refused x → first (settingCases s) ≡ some (x .number)
-  unfolding checkOf refusedOr
-  refused-first x e = go (first (settingCases s)) refl e
-    where
-      go : (o : Option ℕ) → first (settingCases s) ≡ o → refusedOr Refused o Fine ≡ Refused x → o ≡ some (x .number)
-      go none d e = let z : _≡_ {A = ℕ} 0 1 = cc in absurd (omega arith)
-      go (some n) d e = let z : record { number = n } ≡ x = cc in ap (λ (y : Refusal). some (y .number)) z
+  unfolding checkRefusal
+  refused-first x e = sym check-first ∙ ap checkRefusal e
 
   fine-first : checkOf s ≡ Fine → first (settingCases s) ≡ none
-  unfolding checkOf refusedOr
-  fine-first e = go (first (settingCases s)) refl e
-    where
-      go : (o : Option ℕ) → first (settingCases s) ≡ o → refusedOr Refused o Fine ≡ Fine → o ≡ none
-      go none d e = refl
-      go (some n) d e = let z : _≡_ {A = ℕ} 0 1 = cc in absurd (omega arith)
+  unfolding checkRefusal
+  fine-first e = sym check-first ∙ ap checkRefusal e
 
   -- a list of cases that begins with the setting's: they decide it where they refuse, and are passed over where they do not
   module _ (more : List Case) {A : Type 0} (refuse : Refusal → A) (a : A) where

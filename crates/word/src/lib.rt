@@ -5,13 +5,13 @@ mod setting;
 mod special;
 mod writing;
 
-pub use reading::MOST_WORDS;
 pub use reading::Place;
 pub use reading::Reading;
 pub use reading::read;
 pub use reading::read_at;
 pub use setting::Check;
 pub use setting::Level;
+pub use setting::MOST_WORDS;
 pub use setting::Mode;
 pub use setting::Refusal;
 pub use setting::Setting;

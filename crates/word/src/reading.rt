@@ -8,6 +8,7 @@ ghost use Rattle.word.specs.Reading.{form, commandIn, readingOf};
 ghost use Rattle.word.specs.Contracts.{Reads, ReadsAt};
 use crate::setting::Check;
 use crate::setting::Level;
+use crate::setting::MOST_WORDS;
 use crate::setting::Mode;
 use crate::setting::Refusal;
 use crate::setting::Setting;
@@ -55,9 +56,6 @@ pub enum Place {
     Past,
     Refused { refusal: Refusal },
 }
-
-// The most words that may be lent.
-pub const MOST_WORDS: usize = 1_048_576;
 
 // What a word reads as; `next` is the word after it, where a long form has its count.
 pub fn read(setting: Setting, word: u32, next: u32) -> Reading

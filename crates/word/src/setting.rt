@@ -66,6 +66,9 @@ impl Refusal {
     pub const STATE: Refusal = Refusal { number: 13 };
 }
 
+// The most words of pushbuffer or semaphore memory: more are SIZE.
+pub const MOST_WORDS: usize = 1_048_576;
+
 // What a word is read or written at.
 pub struct Setting {
     pub level: Level,

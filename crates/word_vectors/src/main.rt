@@ -1,6 +1,6 @@
 // Runs the readings, writings and special methods that the model made: each record on standard
 // input is a question and the model's answer, in little-endian words. Prints how many there were of
-// each kind and how many answers differ, with the place of the first.
+// each kind and how many answers differ, and of the first that does its place and its words.
 mod answer;
 mod constant;
 mod question;
@@ -12,7 +12,7 @@ use question::Record;
 // More records than a file of vectors has: the run ends with the input.
 const MOST_RECORDS: u32 = 1_000_000;
 
-// How many records of each kind there were; the first that was wrong is counted from 1.
+// How many records of each kind there were, and the first that was wrong, counted from 1.
 struct Tally {
     read: u32,
     read_at: u32,
@@ -21,6 +21,7 @@ struct Tally {
     unknown: u32,
     wrong: u32,
     first: u32,
+    words: [u32; 14],
 }
 
 fn main() {
@@ -33,6 +34,21 @@ fn main() {
     line(b"unknown ", tally.unknown);
     line(b"wrong ", tally.wrong);
     line(b"first wrong ", tally.first);
+    if 0 < tally.wrong {
+        let words = tally.words;
+        show(words);
+    }
+}
+
+// The words of a record, a line each.
+fn show(words: [u32; 14]) {
+    for i in 0..14 {
+        show_word(words[i]);
+    }
+}
+
+fn show_word(word: u32) {
+    line(b"  ", word);
 }
 
 fn run_in(mut space: [u32; 1_048_577]) -> Tally {
@@ -54,6 +70,7 @@ fn run(space: &mut [u32]) -> Tally {
         unknown: 0,
         wrong: 0,
         first: 0,
+        words: [0; 14],
     };
     for n in 0..MOST_RECORDS {
         let record = question::next_record();
@@ -63,7 +80,8 @@ fn run(space: &mut [u32]) -> Tally {
         }
         tally = counted(tally, kind);
         if !right(record, space) {
-            tally = missed(tally, n);
+            let words = record.words;
+            tally = missed(tally, n, words);
         }
     }
     tally
@@ -94,10 +112,11 @@ fn counted(tally: Tally, kind: Kind) -> Tally {
 }
 
 // One more wrong answer, at the record `n`.
-fn missed(tally: Tally, n: u32) -> Tally {
+fn missed(tally: Tally, n: u32, words: [u32; 14]) -> Tally {
     let mut next = tally;
     if tally.wrong == 0 {
         next.first = more(n);
+        next.words = words;
     }
     next.wrong = more(tally.wrong);
     next
