@@ -51,6 +51,8 @@ fn show_word(word: u32) {
     line(b"  ", word);
 }
 
+// One word more than may be lent, so that SIZE is tried. The array is lent from a parameter: of one
+// made here, the checker would count the words one by one.
 fn run_in(mut space: [u32; 1_048_577]) -> Tally {
     run(&mut space[..])
 }
