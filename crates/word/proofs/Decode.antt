@@ -53,6 +53,10 @@ module _ (w n : ℕ) where
   unfolding forms fits returning commandIn numbersIn
   return-is e = by returning (there (there (there here))) (rw e)
 
+  pub sli-is : bits 31 16 w ≡ 1 → bits 3 0 w ≡ 0 → commandIn (formOf w) w n ≡ Sli (bits 15 4 w)
+  unfolding forms fits sliConditional commandIn numbersIn
+  sli-is half rest = by sliConditional (there (there here)) (rw (half, rest))
+
   module _ (low : bits 1 0 w ≡ 0) where
     pub old-jump-is : bits 31 29 w ≡ 1 → commandIn (formOf w) w n ≡ OldJump (bits 28 2 w * 2 ^ 2)
     unfolding forms fits oldJump commandIn numbersIn
@@ -65,10 +69,6 @@ module _ (w n : ℕ) where
     pub non-increasing-is : bits 31 29 w ≡ 2 → bits 17 16 w ≡ 0 → commandIn (formOf w) w n ≡ NonIncreasing (bits 28 18 w) (bits 15 13 w) (bits 12 2 w * 2 ^ 2)
     unfolding forms fits nonIncreasing commandIn numbersIn
     non-increasing-is top middle = by nonIncreasing (there here) (rw (top, middle, low))
-
-    pub sli-is : bits 31 16 w ≡ 1 → bits 3 0 w ≡ 0 → commandIn (formOf w) w n ≡ Sli (bits 15 4 w)
-    unfolding forms fits sliConditional commandIn numbersIn
-    sli-is half rest = by sliConditional (there (there here)) (rw (half, rest))
 
     pub long-is : bits 31 16 w ≡ 3 → commandIn (formOf w) w n ≡ Long (bits 15 13 w) (bits 12 2 w * 2 ^ 2) (bits 23 0 n)
     unfolding forms fits long commandIn numbersIn

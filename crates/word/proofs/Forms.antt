@@ -113,14 +113,30 @@ pub the-form : (f : Form) → In f forms → (w : ℕ) → fits (f .word) w ≡ 
 unfolding forms exclusive against clash differ bitIn bitOf orElse choose increasing nonIncreasing sliConditional returning long oldJump jump call
 the-form f i w e = form-in {fs = forms} refl f i w e
 
--- to show something of a form of the table, show it of each
-abbrev pub All : (Form → Type 0) → List Form → Type 0
+-- to show something of a form of the table, show it of each of the eight
+abbrev All : (Form → Type 0) → List Form → Type 0
 All P [] = Unit {0}
 All P (f ∷ fs) = P f × All P fs
 
-pub each : (P : Form → Type 0) {fs : List Form} → All P fs → {f : Form} → In f fs → P f
+each : (P : Form → Type 0) {fs : List Form} → All P fs → {f : Form} → In f fs → P f
 each P a here = a .0
 each P a (there i) = each P (a .1) i
+
+pub eight :
+    (P : Form → Type 0)
+    → P increasing
+    → P nonIncreasing
+    → P sliConditional
+    → P returning
+    → P long
+    → P oldJump
+    → P jump
+    → P call
+    → {f : Form}
+    → In f forms
+    → P f
+unfolding forms
+eight P a b c d e f g h i = each P {fs = forms} (a, (b, (c, (d, (e, (f, (g, (h, tt)))))))) i
 
 -- to show something of a word's form, show it of each form that the word fits, and of everything else
 by-form-in : (P : Form → Type 0) (w : ℕ) (fs : List Form) → ((f : Form) → In f fs → fits (f .word) w ≡ true → P f) → P everythingElse → P (formIn fs w)

@@ -46,11 +46,14 @@ whole (holds h l ∷ ps) = whole ps
 whole (address h l ∷ ps) = whole ps
 whole (spare h l ∷ ps) = false
 
--- what lying side by side says of the first part
+-- What lying side by side says of the first part: where it ends, and that what stands below bit `top` decides the bits in it
+-- and what stands below it.
 pub record Tile (top : ℕ) (p : Part) (ps : List Part) : Type 0 where
   pub ends : hi p + 1 ≡ top
   pub split-at : top ≡ (hi p + 1 - lo p) + lo p
   pub rest : tiled (lo p) ps ≡ true
+  pub same-bits : (w v : ℕ) → w % 2 ^ top ≡ v % 2 ^ top → bits (hi p) (lo p) w ≡ bits (hi p) (lo p) v
+  pub same-below : (w v : ℕ) → w % 2 ^ top ≡ v % 2 ^ top → w % 2 ^ lo p ≡ v % 2 ^ lo p
 
 tile : (top : ℕ) (p : Part) (ps : List Part) → tiled top (p ∷ ps) ≡ true → Tile top p ps
 unfolding tiled
@@ -59,50 +62,40 @@ tile top p ps t =
     let t₂ = both (leb (lo p) (hi p)) (tiled (lo p) ps) (t₁ .1) in
     let a : hi p + 1 ≡ top = eqb-true _ _ (t₁ .0) in
     let b : lo p ≤ hi p = leb-true _ _ (t₂ .0) in
-    record { ends = a; split-at = omega arith; rest = t₂ .1 }
+    let j = hi p + 1 - lo p in
+    let split : top ≡ j + lo p = omega arith in
+    record {
+      ends = a;
+      split-at = split;
+      rest = t₂ .1;
+      same-bits = λ w v e. sym (field w j (lo p)) ∙ ap (λ (n : ℕ). n / 2 ^ lo p) (rw split at e) ∙ field v j (lo p);
+      same-below = λ w v e. sym (mod-mod-pow w j (lo p)) ∙ ap (λ (n : ℕ). n % 2 ^ lo p) (rw split at e) ∙ mod-mod-pow v j (lo p);
+    }
 
--- what stands below bit `top` decides the bits there
-module _ (w v j l : ℕ) {top : ℕ} (t : top ≡ j + l) (e : w % 2 ^ top ≡ v % 2 ^ top) where
-  same : w % 2 ^ (j + l) ≡ v % 2 ^ (j + l)
-  same = rw t at e
-
-  same-bits : w / 2 ^ l % 2 ^ j ≡ v / 2 ^ l % 2 ^ j
-  same-bits = sym (field w j l) ∙ ap (λ (n : ℕ). n / 2 ^ l) same ∙ field v j l
-
-  same-below : w % 2 ^ l ≡ v % 2 ^ l
-  same-below = sym (mod-mod-pow w j l) ∙ ap (λ (n : ℕ). n % 2 ^ l) same ∙ mod-mod-pow v j l
-
-same-numbers : (top : ℕ) (ps : List Part) → tiled top ps ≡ true → (w v : ℕ) → w % 2 ^ top ≡ v % 2 ^ top → numbersIn ps w ≡ numbersIn ps v
-unfolding numbersIn
-same-numbers top [] t w v e = refl
-same-numbers top (is h l n ∷ ps) t w v e =
+-- words that agree below bit `top` have the same numbers, and fit alike
+same-parts :
+    (top : ℕ) (ps : List Part)
+    → tiled top ps ≡ true
+    → (w v : ℕ)
+    → w % 2 ^ top ≡ v % 2 ^ top
+    → (numbersIn ps w ≡ numbersIn ps v) × (fits ps w ≡ fits ps v)
+unfolding numbersIn fits
+same-parts top [] t w v e = (refl, refl)
+same-parts top (is h l n ∷ ps) t w v e =
     let p = tile top (is h l n) ps t in
-    same-numbers l ps (p .rest) w v (same-below w v (h + 1 - l) l (p .split-at) e)
-same-numbers top (holds h l ∷ ps) t w v e =
+    let rest = same-parts l ps (p .rest) w v (p .same-below w v e) in
+    (rest .0, rw (p .same-bits w v e, rest .1))
+same-parts top (holds h l ∷ ps) t w v e =
     let p = tile top (holds h l) ps t in
-    rw (same-bits w v (h + 1 - l) l (p .split-at) e, same-numbers l ps (p .rest) w v (same-below w v (h + 1 - l) l (p .split-at) e))
-same-numbers top (address h l ∷ ps) t w v e =
+    let rest = same-parts l ps (p .rest) w v (p .same-below w v e) in
+    (rw (p .same-bits w v e, rest .0), rest .1)
+same-parts top (address h l ∷ ps) t w v e =
     let p = tile top (address h l) ps t in
-    rw (same-bits w v (h + 1 - l) l (p .split-at) e, same-numbers l ps (p .rest) w v (same-below w v (h + 1 - l) l (p .split-at) e))
-same-numbers top (spare h l ∷ ps) t w v e =
+    let rest = same-parts l ps (p .rest) w v (p .same-below w v e) in
+    (rw (p .same-bits w v e, rest .0), rest .1)
+same-parts top (spare h l ∷ ps) t w v e =
     let p = tile top (spare h l) ps t in
-    same-numbers l ps (p .rest) w v (same-below w v (h + 1 - l) l (p .split-at) e)
-
-same-fits : (top : ℕ) (ps : List Part) → tiled top ps ≡ true → (w v : ℕ) → w % 2 ^ top ≡ v % 2 ^ top → fits ps w ≡ fits ps v
-unfolding fits
-same-fits top [] t w v e = refl
-same-fits top (is h l n ∷ ps) t w v e =
-    let p = tile top (is h l n) ps t in
-    rw (same-bits w v (h + 1 - l) l (p .split-at) e, same-fits l ps (p .rest) w v (same-below w v (h + 1 - l) l (p .split-at) e))
-same-fits top (holds h l ∷ ps) t w v e =
-    let p = tile top (holds h l) ps t in
-    same-fits l ps (p .rest) w v (same-below w v (h + 1 - l) l (p .split-at) e)
-same-fits top (address h l ∷ ps) t w v e =
-    let p = tile top (address h l) ps t in
-    same-fits l ps (p .rest) w v (same-below w v (h + 1 - l) l (p .split-at) e)
-same-fits top (spare h l ∷ ps) t w v e =
-    let p = tile top (spare h l) ps t in
-    same-fits l ps (p .rest) w v (same-below w v (h + 1 - l) l (p .split-at) e)
+    same-parts l ps (p .rest) w v (p .same-below w v e)
 
 -- A word that holds the numbers: it is no wider than the parts, its bits are what the parts say, and it gives the numbers back.
 pub record Held (top : ℕ) (ps : List Part) (ns : List ℕ) (w : ℕ) : Type 0 where
@@ -110,25 +103,27 @@ pub record Held (top : ℕ) (ps : List Part) (ns : List ℕ) (w : ℕ) : Type 0 
   pub right : fits ps w ≡ true
   pub back : numbersIn ps w ≡ take (room ps) ns
 
--- a number f in the j bits from l up, over a word r below them that holds the other numbers
-module _ (f r j l : ℕ) {top : ℕ} (t : top ≡ j + l) {ps : List Part} {ns : List ℕ} (tiles : tiled l ps ≡ true) (hf : f < 2 ^ j) (rest : Held l ps ns r) where
-  put-narrow : f * 2 ^ l + r < 2 ^ top
-  put-narrow =
-      let a : f * 2 ^ l + r < suc f * 2 ^ l = rw suc-mul (omega (arith, rest .narrow)) in
-      let b : suc f * 2 ^ l ≤ 2 ^ j * 2 ^ l = mul-le-mul-right (2 ^ l) hf in
-      rw (t, pow-add 2 j l) (lt-of-lt-of-le a b)
+-- A number f put into the bits of a part, over a word r that holds the other numbers: it stands there, and they still do.
+record Put (top : ℕ) (p : Part) (ps : List Part) (ns : List ℕ) (f r : ℕ) : Type 0 where
+  here : bits (hi p) (lo p) (f * 2 ^ lo p + r) ≡ f
+  below : Held top ps ns (f * 2 ^ lo p + r)
 
-  put-bits : (f * 2 ^ l + r) / 2 ^ l % 2 ^ j ≡ f
-  put-bits = rw (high f l (rest .narrow)) (mod-eq-of-lt hf)
-
-  put-below : Held top ps ns (f * 2 ^ l + r)
-  put-below =
-      let e = mul-add-mod-self-right f (2 ^ l) r in
-      record {
-        narrow = put-narrow;
-        right = same-fits l ps tiles (f * 2 ^ l + r) r e ∙ rest .right;
-        back = same-numbers l ps tiles (f * 2 ^ l + r) r e ∙ rest .back;
-      }
+put : {top : ℕ} {p : Part} {ps : List Part} {ns : List ℕ} (f r : ℕ) → Tile top p ps → f < 2 ^ (hi p + 1 - lo p) → Held (lo p) ps ns r → Put top p ps ns f r
+put {top} {p} {ps} {ns} f r t h rest =
+    let j = hi p + 1 - lo p in
+    let l = lo p in
+    let one : f * 2 ^ l + r < suc f * 2 ^ l = rw suc-mul (omega (arith, rest .narrow)) in
+    let all : suc f * 2 ^ l ≤ 2 ^ j * 2 ^ l = mul-le-mul-right (2 ^ l) h in
+    let same = same-parts l ps (t .rest) (f * 2 ^ l + r) r (mul-add-mod-self-right f (2 ^ l) r) in
+    record {
+      here = rw (high f l (rest .narrow)) (mod-eq-of-lt h);
+      below =
+          record {
+            narrow = rw (t .split-at, pow-add 2 j l) (lt-of-lt-of-le one all);
+            right = same .1 ∙ rest .right;
+            back = same .0 ∙ rest .back;
+          };
+    }
 
 pub held : (top : ℕ) (ps : List Part) (ns : List ℕ) → tiled top ps ≡ true → fixed ps ≡ true → fit ps ns ≡ true → Held top ps ns (wordWith ps ns)
 unfolding fits numbersIn wordWith fit room fixed
@@ -136,47 +131,29 @@ held top [] ns t x f = record { narrow = pow-pos top; right = refl; back = refl 
 held top (is h l v ∷ ps) ns t x f =
     let p = tile top (is h l v) ps t in
     let y = both (ltb v (2 ^ (h + 1 - l))) (fixed ps) x in
-    let rest = held l ps ns (p .rest) (y .1) f in
-    let low = ltb-true _ _ (y .0) in
-    let all = put-below v (wordWith ps ns) (h + 1 - l) l (p .split-at) (p .rest) low rest in
-    record {
-      narrow = all .narrow;
-      right = rw (put-bits v (wordWith ps ns) (h + 1 - l) l (p .split-at) (p .rest) low rest, eq-eqb v v refl) (all .right);
-      back = all .back;
-    }
+    let q = put v (wordWith ps ns) p (ltb-true _ _ (y .0)) (held l ps ns (p .rest) (y .1) f) in
+    record { narrow = q .below .narrow; right = rw (q .here, eq-eqb v v refl) (q .below .right); back = q .below .back }
 held top (holds h l ∷ ps) [] t x f = absurd (false≢true f)
 held top (holds h l ∷ ps) (m ∷ ns) t x f =
     let p = tile top (holds h l) ps t in
     let y = both (ltb m (2 ^ (h + 1 - l))) (fit ps ns) f in
-    let rest = held l ps ns (p .rest) x (y .1) in
-    let low = ltb-true _ _ (y .0) in
-    let all = put-below m (wordWith ps ns) (h + 1 - l) l (p .split-at) (p .rest) low rest in
-    record {
-      narrow = all .narrow;
-      right = all .right;
-      back = rw (put-bits m (wordWith ps ns) (h + 1 - l) l (p .split-at) (p .rest) low rest, all .back);
-    }
+    let q = put m (wordWith ps ns) p (ltb-true _ _ (y .0)) (held l ps ns (p .rest) x (y .1)) in
+    record { narrow = q .below .narrow; right = q .below .right; back = rw (q .here, q .below .back) }
 held top (address h l ∷ ps) [] t x f = absurd (false≢true f)
 held top (address h l ∷ ps) (m ∷ ns) t x f =
     let p = tile top (address h l) ps t in
     let y = both (ltb m (2 ^ (h + 1)) && eqb (m % 2 ^ l) 0) (fit ps ns) f in
     let z = both (ltb m (2 ^ (h + 1))) (eqb (m % 2 ^ l) 0) (y .0) in
-    let rest = held l ps ns (p .rest) x (y .1) in
     let whole : m / 2 ^ l * 2 ^ l ≡ m = omega (arith, split m l, eqb-true (m % 2 ^ l) 0 (z .1)) in
     let low = shr-lt (h + 1 - l) l (subst (λ (k : ℕ). m < 2 ^ k) (p .ends ∙ p .split-at) (ltb-true _ _ (z .0))) in
-    let all = put-below (m / 2 ^ l) (wordWith ps ns) (h + 1 - l) l (p .split-at) (p .rest) low rest in
+    let q = put (m / 2 ^ l) (wordWith ps ns) p low (held l ps ns (p .rest) x (y .1)) in
     subst (λ (k : ℕ). Held top (address h l ∷ ps) (m ∷ ns) (k + wordWith ps ns)) whole
-    (record {
-      narrow = all .narrow;
-      right = all .right;
-      back = rw (put-bits (m / 2 ^ l) (wordWith ps ns) (h + 1 - l) l (p .split-at) (p .rest) low rest, all .back, whole);
-    })
+    (record { narrow = q .below .narrow; right = q .below .right; back = rw (q .here, q .below .back, whole) })
 held top (spare h l ∷ ps) ns t x f =
     let p = tile top (spare h l) ps t in
-    let rest = held l ps ns (p .rest) x f in
-    let all = put-below 0 (wordWith ps ns) (h + 1 - l) l (p .split-at) (p .rest) (pow-pos (h + 1 - l)) rest in
+    let q = put 0 (wordWith ps ns) p (pow-pos (h + 1 - l)) (held l ps ns (p .rest) x f) in
     let none : 0 * 2 ^ l + wordWith ps ns ≡ wordWith ps ns = omega arith in
-    subst (Held top (spare h l ∷ ps) ns) none (record { narrow = all .narrow; right = all .right; back = all .back })
+    subst (Held top (spare h l ∷ ps) ns) none (record { narrow = q .below .narrow; right = q .below .right; back = q .below .back })
 
 -- A word whose bits are what the parts say, put together again from its numbers, whatever follows them.
 pub again : (top : ℕ) (ps : List Part) → tiled top ps ≡ true → whole ps ≡ true → (w : ℕ) (ns : List ℕ) → fits ps w ≡ true → wordWith ps (numbersIn ps w ++ ns) ≡ w % 2 ^ top

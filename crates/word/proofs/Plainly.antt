@@ -8,7 +8,7 @@ use native.Mathlib.Omega.{arith}
 use lib.Dec.{eqb, leb, ltb}
 use lib.ListN.{length}
 use borrow.Author.Tests.{lt-ltb, le-leb, eq-eqb, ltb-true, leb-true, eqb-true}
-use Rattle.word.specs.First.{Case, Plain}
+use Rattle.word.specs.First.{choose, Case, Plain}
 use Rattle.word.specs.Setting.{settingCases, sizeCases}
 use Rattle.word.specs.Parts.{Part, is, holds, address, spare, fit}
 use Rattle.word.specs.Form.{Where, either, only, nowhere, inMode, Form, usable, increasing, nonIncreasing, sliConditional, returning, long, oldJump, jump, call, everythingElse, forms}
@@ -124,7 +124,7 @@ form-plain s r =
 
 -- ROOM's test
 pub size-is : (r : Reading) → length (wordsOf r) ≡ size r
-unfolding wordsOf nextWord form number forms increasing nonIncreasing sliConditional returning long oldJump jump call everythingElse
+unfolding choose wordsOf nextWord form number forms increasing nonIncreasing sliConditional returning long oldJump jump call everythingElse
 size-is (Increasing c s m) = refl
 size-is (NonIncreasing c s m) = refl
 size-is (Sli k) = refl

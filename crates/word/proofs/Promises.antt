@@ -128,12 +128,12 @@ passed s r out a e h =
     let all : first cases ≡ none = sym (told-first written.Refused writtenRefusal (λ x. refl) cases _ a refl e) ∙ h in
     let two = append-none (settingCases s) (writeCases s r (length out)) all in
     let field = first-none _ _ (two .1) in
-    let form′ = first-none _ _ (field .1) in
-    let room = first-none _ _ (form′ .1) in
+    let available = first-none _ _ (field .1) in
+    let room = first-none _ _ (available .1) in
     record {
       setting = two .0;
       fields = not-false _ (field .0);
-      there = not-false _ (form′ .0);
+      there = not-false _ (available .0);
       room = ltb-false _ _ (room .0);
       words = e ∙ accepted written.Refused _ all;
     }
@@ -249,12 +249,13 @@ write-back s w next r h e k out a exit space c =
     (sym (q .is))
     (back-again s w next out h (formOf w) (q .member) (q .bits-fit) (q .there) (q .setting) a exit) space c
 
+-- neither a refusal nor a place past the last word has a reading
 nothing : (o : Option ℕ) → placeValues (refusedOr place.Refused o place.Past) ≡ []
 unfolding refusedOr placeValues
 nothing none = refl
 nothing (some n) = refl
 
--- the cases of `read_at` hold none exactly if those of `read` do, and then the answer is what stands at the place
+-- where no case of `read_at` holds, none of `read` does, and the answer is what stands at the place
 pub at-place : AtPlace
 unfolding readOf readAtOf placeRefusal placeValues
 at-place =
@@ -265,7 +266,9 @@ at-place =
           let two = append-none (settingCases s) (sizeCases (length ws)) all in
           ap placeValues (c ∙ accepted place.Refused _ all ∙ choose-true (lt-ltb _ _ h) _ _)
           ∙ ap (λ (x : Reading). number x ∷ values x) (sym (d ∙ accepted Refusing _ (two .0)));
-      past = λ s ws p a c h. ap placeValues (c ∙ ap (refusedOr place.Refused (first (settingCases s ++ sizeCases (length ws)))) (choose-false (le-ltb _ _ h) _ _)) ∙ nothing (first (settingCases s ++ sizeCases (length ws)));
+      past = λ s ws p a c h.
+          let o = first (settingCases s ++ sizeCases (length ws)) in
+          ap placeValues (c ∙ ap (refusedOr place.Refused o) (choose-false (le-ltb _ _ h) _ _)) ∙ nothing o;
     }
 
 pub specials : Specials

@@ -5,7 +5,8 @@ use mathlib.Core.Bool.{Bool, true, _&&_}
 use mathlib.Core.List.{List, [], _∷_, _++_, append-nil}
 use native.Mathlib.Nat.{mod-eq-of-lt}
 use native.Mathlib.Omega.{arith}
-use lib.Dec.{eqb}
+use lib.Dec.{eqb, ltb}
+use borrow.Author.Tests.{ltb-true}
 use lib.ListN.{length, drop, take-append-drop, length-drop}
 use lib.Seq.{take-all, drop-at}
 use Rattle.word.specs.First.{choose}
@@ -17,7 +18,7 @@ use Rattle.word.specs.declared.reading.Reading.{Reading}
 use Rattle.word.specs.declared.reading.Reading.the-variants.{Increasing, NonIncreasing, Sli, Return, Long, OldJump, Jump, Call, Reserved, Refused}
 use Rattle.word.proofs.Tests.{both}
 use Rattle.word.proofs.Parts.{hi, tiled, fixed, whole, Held, held, again, as-many, within, fit-apart}
-use Rattle.word.proofs.Forms.{In, here, there, each, by-form, the-form}
+use Rattle.word.proofs.Forms.{In, here, there, eight, by-form, the-form}
 
 -- how many bits a list of parts takes
 abbrev top : List Part → ℕ
@@ -36,8 +37,8 @@ pub record Laid (f : Form) : Type 0 where
   pub next-right : fixed (f .next) ≡ true
 
 all-laid : {f : Form} → In f forms → laidOut f ≡ true
-unfolding forms increasing nonIncreasing sliConditional returning long oldJump jump call laidOut tiled fixed whole
-all-laid i = each (λ f. laidOut f ≡ true) {fs = forms} (refl, (refl, (refl, (refl, (refl, (refl, (refl, (refl, tt)))))))) i
+unfolding increasing nonIncreasing sliConditional returning long oldJump jump call laidOut tiled fixed whole
+all-laid i = eight (λ f. laidOut f ≡ true) refl refl refl refl refl refl refl refl i
 
 pub laid : {f : Form} → In f forms → Laid f
 unfolding laidOut
@@ -76,28 +77,11 @@ pub record Read (w n : ℕ) (f : Form) : Type 0 where
 pub read-by : (w n : ℕ) {f : Form} → In f forms → Read w n f
 unfolding forms increasing nonIncreasing sliConditional returning long oldJump jump call number form values commandIn numbersIn
 read-by w n i =
-    each (Read w n) {fs = forms} (
-      record { command = omega arith; same = refl; numbers = refl },
-      (
-        record { command = omega arith; same = refl; numbers = refl },
-        (
-          record { command = omega arith; same = refl; numbers = refl },
-          (
-            record { command = omega arith; same = refl; numbers = refl },
-            (
-              record { command = omega arith; same = refl; numbers = refl },
-              (
-                record { command = omega arith; same = refl; numbers = refl },
-                (
-                  record { command = omega arith; same = refl; numbers = refl },
-                  (record { command = omega arith; same = refl; numbers = refl }, tt),
-                ),
-              ),
-            ),
-          ),
-        ),
-      ),
-    ) i
+    record {
+      command = ltb-true _ _ (eight (λ f. ltb (number (commandIn f w n)) 9 ≡ true) refl refl refl refl refl refl refl refl i);
+      same = eight (λ f. form (commandIn f w n) ≡ f) refl refl refl refl refl refl refl refl i;
+      numbers = eight (λ f. values (commandIn f w n) ≡ numbersIn (f .word) w ++ numbersIn (f .next) n) refl refl refl refl refl refl refl refl i;
+    }
 
 -- a command has the form of the word that it is read from, and 'reserved' that of everything else
 pub form-of-command : (w n : ℕ) → form (commandIn (formOf w) w n) ≡ formOf w
@@ -161,8 +145,8 @@ module _ (f : Form) (i : In f forms) (w n : ℕ) where
   second : nextWord (f .next) (numbersIn (f .next) n) ≡ choose (eqb (number (commandIn f w n)) 5) (n % 2 ^ 24 ∷ []) []
   unfolding forms increasing nonIncreasing sliConditional returning long oldJump jump call number commandIn numbersIn nextWord wordWith choose
   second =
-      each (λ g. nextWord (g .next) (numbersIn (g .next) n) ≡ choose (eqb (number (commandIn g w n)) 5) (n % 2 ^ 24 ∷ []) []) {fs = forms}
-      (refl, (refl, (refl, (refl, (ap (λ (x : ℕ). x ∷ []) (omega arith), (refl, (refl, (refl, tt)))))))) i
+      eight (λ g. nextWord (g .next) (numbersIn (g .next) n) ≡ choose (eqb (number (commandIn g w n)) 5) (n % 2 ^ 24 ∷ []) [])
+      refl refl refl refl (ap (λ (x : ℕ). x ∷ []) (omega arith)) refl refl refl i
 
   pub words-back : w < 2 ^ 32 → fits (f .word) w ≡ true → wordsOf (commandIn f w n) ≡ w ∷ choose (eqb (number (commandIn f w n)) 5) (n % 2 ^ 24 ∷ []) []
   unfolding wordsOf

@@ -11,7 +11,7 @@ use Rattle.word.specs.declared.setting.Setting.{Setting}
 use Rattle.word.specs.declared.reading.Reading.{Reading}
 use Rattle.word.specs.declared.reading.Reading.the-variants.{Increasing, NonIncreasing, Sli, Return, Long, OldJump, Jump, Call, Reserved}
 
--- In which mode a form may be used.
+-- In which mode a form may be used: in either, in one only, or, as everything else, in none.
 pub data Where : Type 0 where
   either : Where
   only : ℕ → Where
@@ -40,6 +40,7 @@ pub record Form : Type 0 where
 abbrev row : List Part → List Part → ℕ → Where → Bool → (List ℕ → Reading) → Form
 row word next level mode sli command = record { word = word; next = next; level = level; mode = mode; sli = sli; command = command }
 
+-- a command of one number, and of three
 abbrev one : (ℕ → Reading) → List ℕ → Reading
 one command ns = command (getD ns 0 0)
 
@@ -85,7 +86,7 @@ everythingElse = row [] [] 0 nowhere false (λ ns. Reserved)
 unfoldable pub forms : List Form
 forms = increasing ∷ nonIncreasing ∷ sliConditional ∷ returning ∷ long ∷ oldJump ∷ jump ∷ call ∷ []
 
--- the form whose bits a word has
+-- the form whose bits a word has: the first row that fits, and no other does (`OneForm`)
 unfoldable pub formIn : List Form → ℕ → Form
 formIn [] w = everythingElse
 formIn (f ∷ fs) w = choose (fits (f .word) w) f (formIn fs w)
@@ -93,6 +94,6 @@ formIn (f ∷ fs) w = choose (fits (f .word) w) f (formIn fs w)
 abbrev pub formOf : ℕ → Form
 formOf w = formIn forms w
 
--- whether a form may be used at a setting
+-- whether a form may be used at a setting; FORM is "command not available at that level, mode and SLI setting"
 unfoldable pub usable : Setting → Form → Bool
 usable s f = leb (f .level) (s .level .number) && inMode (f .mode) (s .mode .number) && (not (f .sli) || s .sli)

@@ -59,18 +59,9 @@ Available s (Call t) = (2 ≤ s .level .number) × (s .mode .number ≡ 0)
 Available s Reserved = ⊥
 Available s (Refusing r) = ⊥
 
--- how many words a command is written as
+-- how many words a command is written as: the long form, number 5, has two
 abbrev pub size : Reading → ℕ
-size (Increasing c s m) = 1
-size (NonIncreasing c s m) = 1
-size (Sli k) = 1
-size Return = 1
-size (Long s m c) = 2
-size (OldJump t) = 1
-size (Jump t) = 1
-size (Call t) = 1
-size Reserved = 1
-size (Refusing r) = 1
+size r = choose (eqb (number r) 5) 2 1
 
 -- SIZE, of lent words
 abbrev pub sizePlain : List ℕ → List Plain
@@ -131,8 +122,8 @@ ReadBack =
     → Echo s r out a exit
 
 -- Promise 2, second half: words that read as a command (numbers 1 to 8) are written back, at that setting and into every
--- output long enough, as the same words followed by the old tail, but for the upper eight bits of a long count: the long
--- form, number 5, has a second word, the low 24 bits of the next.
+-- output long enough, as the same words followed by the old tail, but for the upper eight bits of a long count: its second
+-- word is the low 24 bits of the next.
 abbrev pub sameWords : Reading → ℕ → ℕ → List ℕ
 sameWords r w next = w ∷ choose (eqb (number r) 5) (next % 0x1000000 ∷ []) []
 

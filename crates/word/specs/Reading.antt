@@ -51,11 +51,11 @@ commandIn f w next = (f .command) (numbersIn (f .word) w ++ numbersIn (f .next) 
 unfoldable pub readingOf : Setting → ℕ → ℕ → Reading
 readingOf s w next = choose (usable s (formOf w)) (commandIn (formOf w) w next) Reserved
 
--- "Reading a word: 1, 2, 4"
+-- "Reading a word, listing: 1, 2, 4, 8": a word by itself has no size
 unfoldable pub readOf : Setting → ℕ → ℕ → Reading
 readOf s w next = refusedOr Refused (first (settingCases s)) (readingOf s w next)
 
--- "Reading a word: 1, 2, 4, 8", at a place of lent words. After the last word stands 0.
+-- "Reading a word, listing: 1, 2, 4, 8", at a place of lent words. After the last word stands 0.
 unfoldable pub readAtOf : Setting → List ℕ → ℕ → Place
 readAtOf s ws p =
     refusedOr place.Refused (first (settingCases s ++ sizeCases (length ws)))

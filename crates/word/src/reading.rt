@@ -1,6 +1,6 @@
 // What a command word reads as.
 ghost use mathlib.Core.Path.{_≡_};
-ghost use Prim.Native.Nat.{_+_, _<_};
+ghost use Prim.Native.Nat.{ℕ, _+_, _<_};
 ghost use lib.ListN.{getD};
 ghost use Rattle.word.specs.Parts.{bits};
 ghost use Rattle.word.specs.Form.{formOf, usable};
@@ -143,15 +143,16 @@ fn by_upper_bits(word: u32, next: u32) -> Reading
     }
     let middle = (word >> 16) & 3;
     if middle == 0 {
-        return run(word, next);
+        return run(word);
     }
     by_upper_half(word, next)
 }
 
-// A word with bits 17-16 = 00 that is no old jump: a run of methods, by bits 31-29.
-fn run(word: u32, next: u32) -> Reading
+// A word with bits 17-16 = 00 that is no old jump: a run of methods, by bits 31-29, whatever word
+// comes next.
+fn run(word: u32) -> Reading
     requires { ⌜ (bits 1 0 word ≡ 0) × (bits 17 16 word ≡ 0) × (bits 31 29 word ≡ 1 → ⊥) ⌝ }
-    ensures { λ r. ⌜ r ≡ commandIn (formOf word) word next ⌝ }
+    ensures { λ r. ⌜ ((next : ℕ) → r ≡ commandIn (formOf word) word next) ⌝ }
 {
     let top = word >> 29;
     let count = (word >> 18) & 0x7ff;

@@ -12,6 +12,6 @@ by-upper-bits-spec =
     (tie.spec
     (λ c. let w = c .before .args .word in simp (and-high w 27 2) (sym (old-jump-is w _ (c .before .pre) (omega arith))))
     (λ c κs. let w = c .before .before .args .word in (c .before .before .pre, sym (field w 17 16) ∙ c .if2 .taken, omega arith))
-    (λ c. search needs)
+    (λ c. c .run .ensures (c .before .before .before .args .next))
     (λ c κs. let w = c .before .before .args .word in (c .before .before .pre, omega (arith, field w 17 16), omega arith))
     (λ c. search needs))

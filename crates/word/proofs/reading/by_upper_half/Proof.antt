@@ -11,7 +11,7 @@ by-upper-half-spec =
     (tie.spec
     (λ c.
     let w = c .before .before .args .word in
-    simp (field w 15 4) (sym (sli-is w _ (c .before .before .pre .0) (omega arith) (sym (field-0 w 3) ∙ c .if2 .taken))))
+    simp (field w 15 4) (sym (sli-is w _ (omega arith) (sym (field-0 w 3) ∙ c .if2 .taken))))
     (λ c. let w = c .before .before .args .word in odd-sli-is w _ (c .before .before .pre .0) (omega arith) (omega (arith, field-0 w 3)))
     (λ c.
     let a = c .before .before .args in

@@ -12,9 +12,9 @@ run-spec =
     (λ c.
     let w = c .before .args .word in
     let p = c .before .pre in
-    simp (field w 28 18, field w 15 13, and-high w 11 2) (sym (increasing-is w _ (p .0) (omega arith) (p .1))))
+    λ next. simp (field w 28 18, field w 15 13, and-high w 11 2) (sym (increasing-is w next (p .0) (omega arith) (p .1))))
     (λ c.
     let w = c .before .before .args .word in
     let p = c .before .before .pre in
-    simp (field w 28 18, field w 15 13, and-high w 11 2) (sym (non-increasing-is w _ (p .0) (omega arith) (p .1))))
-    (λ c. let p = c .before .before .pre in odd-top-is _ _ (p .0) (omega arith) (p .2) (omega arith)))
+    λ next. simp (field w 28 18, field w 15 13, and-high w 11 2) (sym (non-increasing-is w next (p .0) (omega arith) (p .1))))
+    (λ c. let p = c .before .before .pre in λ next. odd-top-is _ next (p .0) (omega arith) (p .2) (omega arith)))
