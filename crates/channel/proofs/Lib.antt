@@ -1,0 +1,12 @@
+pub mod Widths
+pub mod Setups
+pub mod Openings
+pub mod Puts
+pub mod Steps
+pub mod Formed
+pub mod Refusals
+pub mod Said
+pub mod Keeping
+pub mod Opens
+pub mod Kept
+pub mod Promises

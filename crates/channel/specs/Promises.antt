@@ -1,0 +1,398 @@
+-- The promises about a channel, each a statement that is proved under its own name in proofs/. They speak of the public
+-- functions through their contracts (Contracts.antt): of everything that a contract allows.
+use Prim.Native.Nat.{ℕ, _%_, _^_, _≤_, _<_}
+use mathlib.Core.Path.{_≡_}
+use mathlib.Core.Bool.{Bool, true, false}
+use mathlib.Core.List.{List, [], _∷_}
+use mathlib.Core.Logic.{_⊎_, _↔_}
+use mathlib.Core.Option.{none, some}
+use lib.ListN.{length, getD}
+use Rattle.word.specs.First.{Plain, _if_, FirstIs}
+use Rattle.word.specs.Setting.{LEVEL, MODE, ORDER, SLI, TABLE, DUPLICATE, PUT, SIZE, FIELD, STATE}
+use Rattle.word.specs.Answers.{checkRefusal}
+use Rattle.word.specs.declared.setting.Check.the-variants as check
+use Rattle.event.specs.declared.Kind.the-variants as kind
+use Rattle.event.specs.declared.Method.{Method}
+use Rattle.event.specs.declared.Event.{Event}
+use Rattle.event.specs.declared.Event.the-variants.{Plain as Saying}
+use Rattle.puller.specs.Record as puller-record
+use Rattle.puller.specs.Contracts.{Takes, Retries}
+use Rattle.puller.specs.Promises as puller
+use Rattle.puller.specs.declared.record.Puller.{Puller}
+use Rattle.puller.specs.declared.record.PullerError.{PullerError}
+use Rattle.puller.specs.declared.taking.Taken.{Taken}
+use Rattle.pusher.specs.Record as pusher-record
+use Rattle.pusher.specs.Contracts.{Moves}
+use Rattle.pusher.specs.Promises as pusher
+use Rattle.pusher.specs.declared.record.Setup.{Setup}
+use Rattle.pusher.specs.declared.record.Run.{Run}
+use Rattle.pusher.specs.declared.record.Pusher.{Pusher}
+use Rattle.pusher.specs.declared.moving.Did.the-variants as did
+use Rattle.channel.specs.Answers.{openingRefusal, stepRefusal}
+use Rattle.channel.specs.Contracts.{Opens, Puts, StepsTo}
+use Rattle.channel.specs.declared.record.Channel.{Channel}
+use Rattle.channel.specs.declared.opening.Opening.the-variants as opening
+use Rattle.channel.specs.declared.opening.Opened.{Opened}
+use Rattle.channel.specs.declared.putting.Put.{Put}
+use Rattle.channel.specs.declared.stepping.Answer.the-variants as answer
+use Rattle.channel.specs.declared.stepping.Stepped.{Stepped}
+
+-- What a well-formed channel is, in plain terms.
+
+-- "a combination that 1 to 4 refuse"; "In NV04-style ib_order is held as 0, else 13"
+pub record SetUp (s : Setup) : Type 0 where
+  pub level : s .setting .level .number ≤ 5
+  pub mode : s .setting .mode .number ≤ 1
+  pub ib : s .setting .mode .number ≡ 1 → 4 ≤ s .setting .level .number
+  pub order : s .setting .mode .number ≡ 1 → s .order ≤ 12
+  pub sli : s .setting .sli ≡ true → 3 ≤ s .setting .level .number
+  pub held : s .setting .mode .number ≡ 0 → s .order ≡ 0
+  pub limit : s .limit < 2 ^ 32
+
+-- "read, put and dma_mget 32 bits in NV04-style, 40 in IB"
+pub record Narrow (s : Setup) (address : ℕ) : Type 0 where
+  pub nv04-style : s .setting .mode .number ≡ 0 → address < 2 ^ 32
+  pub ib : s .setting .mode .number ≡ 1 → address < 2 ^ 40
+
+-- "a read, put or return address not a multiple of 4"; the return address has 32 bits
+pub record Addresses (s : Setup) (get-is put-is mget-is back-is : ℕ) : Type 0 where
+  pub get : Narrow s get-is × (get-is % 4 ≡ 0)
+  pub put : Narrow s put-is × (put-is % 4 ≡ 0)
+  pub mget : Narrow s mget-is
+  pub back : (back-is < 2 ^ 32) × (back-is % 4 ≡ 0)
+
+-- "count 24 bits, ... method number 11, ... subchannel 3"
+pub record RunFits (r : Run) : Type 0 where
+  pub count : r .count < 2 ^ 24
+  pub method : r .method < 2 ^ 11
+  pub subchannel : r .subchannel < 2 ^ 3
+
+-- "ib_get and ib_put below 2^ib_order", "SLI mask 12"
+pub record PusherFields (s : Setup) (get put mget back ib-get-is ib-put-is : ℕ) (run-is : Run) (mask-is : ℕ) : Type 0 where
+  pub addresses : Addresses s get put mget back
+  pub ib-get : ib-get-is < 2 ^ s .order
+  pub ib-put : ib-put-is < 2 ^ s .order
+  pub run : RunFits run-is
+  pub mask : mask-is < 2 ^ 12
+
+abbrev pub PusherFits : Setup → Pusher → Type 0
+PusherFits s p = PusherFields s (p .get) (p .put) (p .main .mget) (p .subroutine .back) (p .ib .get) (p .ib .put) (p .run) (p .sli .mask)
+
+-- "engine 5", of the last and of the eight that are bound; "all other numbers 32"
+pub record PullerFields (engines-are : List ℕ) (last-is reference-is dma-is offset-is value-is : ℕ) : Type 0 where
+  pub engines : (subchannel : ℕ) → subchannel < 8 → getD engines-are subchannel 0 < 2 ^ 5
+  pub last : last-is < 2 ^ 5
+  pub reference : reference-is < 2 ^ 32
+  pub dma : dma-is < 2 ^ 32
+  pub offset : offset-is < 2 ^ 32
+  pub value : value-is < 2 ^ 32
+
+abbrev pub PullerFits : Puller → Type 0
+PullerFits p = PullerFields (p .engines) (p .last) (p .reference) (p .semaphore .dma) (p .semaphore .offset) (p .acquire .value)
+
+pub record WellFormed (c : Channel) : Type 0 where
+  pub setup : SetUp (c .setup)
+  pub pusher : PusherFits (c .setup) (c .pusher)
+  pub puller : PullerFits (c .puller)
+
+-- The conditions of the refusals, in plain terms.
+
+-- TABLE: "object table not a multiple of 4 words, or over 4,096 words"
+abbrev pub BadTable : List ℕ → Type 0
+BadTable t = (length t % 4 ≡ 0 → ⊥) ⊎ (4096 < length t)
+
+-- DUPLICATE: "one handle in two entries"
+pub record Twice (t : List ℕ) : Type 0 where
+  pub later : ℕ
+  pub whole : puller.Whole t later
+  pub repeated : puller.Repeated t later
+
+-- "Opening: 1, 2, 3, 4, 10 (SLI mask above 4,095), 5, 6."
+abbrev pub openPlain : ℕ → ℕ → ℕ → Bool → ℕ → List ℕ → List Plain
+openPlain level mode order sli mask table =
+    LEVEL if (5 < level)
+    ∷ MODE if ((1 < mode) ⊎ ((mode ≡ 1) × (level < 4)))
+    ∷ ORDER if ((mode ≡ 1) × (12 < order))
+    ∷ SLI if ((sli ≡ true) × (level < 3))
+    ∷ FIELD if (4095 < mask)
+    ∷ TABLE if BadTable table
+    ∷ DUPLICATE if Twice table
+    ∷ []
+
+-- "Setting put: 13, 7." PUT: "NV04-style: not a multiple of 4. IB: not below 2^ib_order"
+abbrev pub putPlain : Channel → ℕ → List Plain
+putPlain c n =
+    STATE if (WellFormed c → ⊥)
+    ∷ PUT if (((c .setup .setting .mode .number ≡ 1 → ⊥) × (n % 4 ≡ 0 → ⊥)) ⊎ ((c .setup .setting .mode .number ≡ 1) × (2 ^ c .setup .order ≤ n)))
+    ∷ []
+
+-- "Step: 13, 8, 5." SIZE: "pushbuffer or semaphore memory over 1,048,576 words"
+abbrev pub stepPlain : Channel → List ℕ → List ℕ → List ℕ → List Plain
+stepPlain c ws t sems =
+    STATE if (WellFormed c → ⊥)
+    ∷ SIZE if ((1048576 < length ws) ⊎ (1048576 < length sems))
+    ∷ TABLE if BadTable t
+    ∷ []
+
+-- "A fresh channel has every address, count and binding 0, no subroutine, and sli_active set", and no error; "the blank channel"
+-- has all that but the last.
+pub record AtRest (c : Channel) : Type 0 where
+  pub get : c .pusher .get ≡ 0
+  pub put : c .pusher .put ≡ 0
+  pub run : c .pusher .run ≡ record { count = 0; method = 0; subchannel = 0; increasing = false; awaited = false }
+  pub subroutine : c .pusher .subroutine ≡ record { active = false; back = 0 }
+  pub ib : c .pusher .ib ≡ record { get = 0; put = 0 }
+  pub main : c .pusher .main ≡ record { nonmain = false; mget = 0; valid = false }
+  pub pusher-error : pusher-record.number (c .pusher .error) ≡ 0
+  pub engines : (subchannel : ℕ) → puller-record.engineOf (c .puller) subchannel ≡ 0
+  pub last : c .puller .last ≡ 0
+  pub reference : c .puller .reference ≡ 0
+  pub semaphore : c .puller .semaphore ≡ record { dma = 0; offset = 0; valid = false }
+  pub acquire : c .puller .acquire ≡ record { active = false; value = 0 }
+  pub puller-error : puller-record.number (c .puller .error) ≡ 0
+
+pub record Fresh (level mode order : ℕ) (sli : Bool) (mask limit : ℕ) (c : Channel) : Type 0 where
+  pub rest : AtRest c
+  pub level-is : c .setup .setting .level .number ≡ level
+  pub mode-is : c .setup .setting .mode .number ≡ mode
+  pub sli-is : c .setup .setting .sli ≡ sli
+  pub limit-is : c .setup .limit ≡ limit
+  -- "In NV04-style ib_order is held as 0"
+  pub held : mode ≡ 0 → c .setup .order ≡ 0
+  pub order-is : mode ≡ 1 → c .setup .order ≡ order
+  pub mask-is : c .pusher .sli .mask ≡ mask
+  pub active : c .pusher .sli .active ≡ true
+
+-- "level 0, NV04-style, all else 0"
+pub record Blank (c : Channel) : Type 0 where
+  pub rest : AtRest c
+  pub level : c .setup .setting .level .number ≡ 0
+  pub mode : c .setup .setting .mode .number ≡ 0
+  pub sli : c .setup .setting .sli ≡ false
+  pub limit : c .setup .limit ≡ 0
+  pub order : c .setup .order ≡ 0
+  pub mask : c .pusher .sli .mask ≡ 0
+  pub active : c .pusher .sli .active ≡ false
+
+-- Promise 1. A refusal is given exactly when the table says: an answer is refusal n if and only if n's condition holds and none
+-- before it in the paper's order does.
+pub record Refused : Type 0 where
+  pub opens :
+      (level mode order : ℕ) (sli : Bool) (mask limit : ℕ) (t : List ℕ) (r : Opened)
+      → Opens level mode order sli mask limit t r
+      → (n : ℕ)
+      → openingRefusal (r .answer) ≡ some n ↔ FirstIs (openPlain level mode order sli mask t) n
+  pub put : (c : Channel) (p : ℕ) (r : Put) → Puts c p r → (n : ℕ) → checkRefusal (r .answer) ≡ some n ↔ FirstIs (putPlain c p) n
+  pub step :
+      (c : Channel) (ws es t sems exit : List ℕ) (r : Stepped)
+      → StepsTo c ws es t sems r exit
+      → (n : ℕ)
+      → stepRefusal (r .answer) ≡ some n ↔ FirstIs (stepPlain c ws t sems) n
+  -- "A refused opening yields the blank channel and, for 6, the lowest entry that repeats an earlier one."
+  pub blank :
+      (level mode order : ℕ) (sli : Bool) (mask limit : ℕ) (t : List ℕ) (r : Opened)
+      → Opens level mode order sli mask limit t r
+      → (n : ℕ)
+      → openingRefusal (r .answer) ≡ some n
+      → Blank (r .channel)
+  pub repeated :
+      (level mode order : ℕ) (sli : Bool) (mask limit : ℕ) (t : List ℕ) (r : Opened)
+      → Opens level mode order sli mask limit t r
+      → openingRefusal (r .answer) ≡ some DUPLICATE
+      → (i : ℕ)
+      → r .answer ≡ opening.Duplicate i ↔ (puller.Whole t i × puller.Repeated t i × ((j : ℕ) → j < i → puller.Repeated t j → ⊥))
+  -- "Other refusals hand the channel back unchanged. No refusal writes lent memory."
+  pub put-unchanged : (c : Channel) (p : ℕ) (r : Put) → Puts c p r → (n : ℕ) → checkRefusal (r .answer) ≡ some n → r .channel ≡ c
+  pub step-unchanged :
+      (c : Channel) (ws es t sems exit : List ℕ) (r : Stepped)
+      → StepsTo c ws es t sems r exit
+      → (n : ℕ)
+      → stepRefusal (r .answer) ≡ some n
+      → (r .channel ≡ c) × (exit ≡ sems)
+
+-- What is not refused: the fresh channel, and the channel with its put.
+pub record Accepted : Type 0 where
+  pub opens :
+      (level mode order : ℕ) (sli : Bool) (mask limit : ℕ) (t : List ℕ) (r : Opened)
+      → Opens level mode order sli mask limit t r
+      → openingRefusal (r .answer) ≡ none
+      → (r .answer ≡ opening.Open) × Fresh level mode order sli mask limit (r .channel)
+  -- in NV04-style put, in IB mode ib_put; "Put may be set on a stopped channel; it stays stopped."
+  pub put :
+      (c : Channel) (p : ℕ) (r : Put)
+      → Puts c p r
+      → checkRefusal (r .answer) ≡ none
+      → c .setup .setting .mode .number ≡ 0
+      → r ≡ record { answer = check.Fine; channel = record { setup = c .setup; pusher = pusher-record.withPut (c .pusher) p; puller = c .puller } }
+  pub ib-put :
+      (c : Channel) (p : ℕ) (r : Put)
+      → Puts c p r
+      → checkRefusal (r .answer) ≡ none
+      → c .setup .setting .mode .number ≡ 1
+      → r
+      ≡ record {
+        answer = check.Fine;
+        channel = record { setup = c .setup; pusher = pusher-record.withIb (c .pusher) (c .pusher .ib .get) p; puller = c .puller };
+      }
+
+-- Each contract leaves one outcome: any two that it allows are equal.
+pub record One : Type 0 where
+  pub opens :
+      (level mode order : ℕ) (sli : Bool) (mask limit : ℕ) (t : List ℕ) (a b : Opened)
+      → Opens level mode order sli mask limit t a
+      → Opens level mode order sli mask limit t b
+      → a ≡ b
+  pub put : (c : Channel) (p : ℕ) (a b : Put) → Puts c p a → Puts c p b → a ≡ b
+  pub step :
+      (c : Channel) (ws es t sems x y : List ℕ) (a b : Stepped)
+      → StepsTo c ws es t sems a x
+      → StepsTo c ws es t sems b y
+      → (a ≡ b) × (x ≡ y)
+
+-- Promise 2. What a step says and leaves.
+
+-- the step is not refused
+pub record Takable (c : Channel) (ws t sems : List ℕ) : Type 0 where
+  pub well-formed : WellFormed c
+  pub words : length ws ≤ 1048576
+  pub semaphores : length sems ≤ 1048576
+  pub table : BadTable t → ⊥
+
+-- neither half has been stopped by an error
+abbrev pub Running : Channel → Type 0
+Running c = (pusher-record.number (c .pusher .error) ≡ 0) × (puller-record.number (c .puller .error) ≡ 0)
+
+-- it says e, and leaves the pusher p and the puller q
+abbrev pub leaving : Channel → Event → Pusher → Puller → Stepped
+leaving c e p q = record { answer = answer.Event e; channel = record { setup = c .setup; pusher = p; puller = q } }
+
+-- The sentences, of any relation R between what a step is given and what it leaves.
+pub record Sentences (R : Channel → List ℕ → List ℕ → List ℕ → List ℕ → Stepped → List ℕ → Type 0) : Type 0 where
+  -- a refusal, by the table
+  pub refused :
+      (c : Channel) (ws es t sems exit : List ℕ) (n : ℕ) (r : Stepped)
+      → R c ws es t sems r exit
+      → FirstIs (stepPlain c ws t sems) n
+      → (r ≡ record { answer = answer.Refused (record { number = n }); channel = c }) × (exit ≡ sems)
+  -- "1. Stopped by an error: answers stopped, nothing changes."
+  pub stopped :
+      (c : Channel) (ws es t sems exit : List ℕ) (r : Stepped)
+      → R c ws es t sems r exit
+      → Takable c ws t sems
+      → (Running c → ⊥)
+      → (r ≡ leaving c (Saying kind.Stopped) (c .pusher) (c .puller)) × (exit ≡ sems)
+  -- "2. Acquire active: reads the semaphore again." The pusher stays; what the puller does is `Retrying`.
+  pub retry :
+      (c : Channel) (ws es t sems exit : List ℕ) (taken : Taken) (r : Stepped)
+      → R c ws es t sems r exit
+      → Takable c ws t sems
+      → Running c
+      → c .puller .acquire .active ≡ true
+      → Retries (c .setup .setting .level) (c .puller) sems taken
+      → (r ≡ leaving c (taken .event) (c .pusher) (taken .puller)) × (exit ≡ sems)
+  -- "3. Read address unequal to put: reads one word. 4. IB mode, ib_get unequal to ib_put: reads one entry. 5. Idle." is `Pushes`;
+  -- what the pusher says by itself leaves the puller and the memory
+  pub move :
+      (c : Channel) (ws es t sems exit : List ℕ) (p : Pusher) (e : Event) (r : Stepped)
+      → R c ws es t sems r exit
+      → Takable c ws t sems
+      → Running c
+      → c .puller .acquire .active ≡ false
+      → Moves (c .setup) (c .pusher) ws es (record { pusher = p; did = did.Event e })
+      → (r ≡ leaving c e p (c .puller)) × (exit ≡ sems)
+  -- "else the puller takes it in the same step", which is `Pulls`
+  pub submit :
+      (c : Channel) (ws es t sems exit after : List ℕ) (p : Pusher) (m : Method) (taken : Taken) (r : Stepped)
+      → R c ws es t sems r exit
+      → Takable c ws t sems
+      → Running c
+      → c .puller .acquire .active ≡ false
+      → Moves (c .setup) (c .pusher) ws es (record { pusher = p; did = did.Submit m })
+      → Takes (c .setup .setting .level) (c .puller) m t sems taken after
+      → (r ≡ leaving c (taken .event) p (taken .puller)) × (exit ≡ after)
+
+-- the steps do what the sentences say, whole: those of the channel, of the pusher's move and of the puller;
+pub record Steps : Type 0 where
+  pub channel : Sentences StepsTo
+  pub pushes : pusher.Pushes
+  pub pulls : puller.Pulls
+  pub retrying : puller.Retrying
+  pub looks : puller.Looks
+  -- "Errors 1 to 4 leave the read address past the word, dma_mget following it by the rule below, all else as before."
+  pub pusher-error :
+      (c : Channel) (ws es t sems exit : List ℕ) (r : Stepped)
+      → StepsTo c ws es t sems r exit
+      → Takable c ws t sems
+      → Running c
+      → 1 ≤ pusher-record.number (r .channel .pusher .error)
+      → pusher-record.number (r .channel .pusher .error) ≤ 4
+      → (q : Pusher)
+      → pusher.Past (c .setup) (c .pusher) q
+      → (r ≡ leaving c (Saying kind.Error) (pusher-record.withError q (r .channel .pusher .error)) (c .puller)) × (exit ≡ sems)
+  -- "Any puller error stops the channel; the pusher keeps the advance of that step, count and method too (a retry has none and
+  -- stays active); no semaphore word changes."
+  pub puller-error :
+      (c : Channel) (ws es t sems exit : List ℕ) (r : Stepped)
+      → StepsTo c ws es t sems r exit
+      → Takable c ws t sems
+      → Running c
+      → (puller-record.number (r .channel .puller .error) ≡ 0 → ⊥)
+      → (exit ≡ sems) × (r .answer ≡ answer.Event (Saying kind.Error))
+  pub retry-past-end :
+      (c : Channel) (ws es t sems exit : List ℕ) (e : PullerError) (r : Stepped)
+      → StepsTo c ws es t sems r exit
+      → Takable c ws t sems
+      → Running c
+      → c .puller .acquire .active ≡ true
+      → puller.PastEnd (c .setup .setting .level) (c .puller) sems e
+      → (r ≡ leaving c (Saying kind.Error) (c .pusher) (puller-record.withError (c .puller) e)) × (exit ≡ sems)
+
+-- and they leave no case open: whatever does what they say does what `step` does.
+abbrev pub NoOther : Type 1
+NoOther =
+    (R : Channel → List ℕ → List ℕ → List ℕ → List ℕ → Stepped → List ℕ → Type 0)
+    → Sentences R
+    → (c : Channel) (ws es t sems exit : List ℕ) (r : Stepped)
+    → R c ws es t sems r exit
+    → StepsTo c ws es t sems r exit
+
+-- What the card reads are words of 32 bits.
+abbrev pub Words : List ℕ → Type 0
+Words l = (i : ℕ) → getD l i 0 < 2 ^ 32
+
+-- d comes of c by puts and steps in any order, refused ones too, each with its own lent memory
+pub data Later (c : Channel) : Channel → Type 0 where
+  same : Later c c
+  put : {d e : Channel} (n : ℕ) (r : Put) → Later c d → n < 2 ^ 32 → Puts d n r → e ≡ r .channel → Later c e
+  step :
+      {d e : Channel} (ws es t sems exit : List ℕ) (r : Stepped)
+      → Later c d
+      → Words ws
+      → Words t
+      → StepsTo d ws es t sems r exit
+      → e ≡ r .channel
+      → Later c e
+
+pub record Kept : Type 0 where
+  -- the answer is not 13 exactly if the channel is well-formed
+  pub put-state : (c : Channel) (n : ℕ) (r : Put) → Puts c n r → (checkRefusal (r .answer) ≡ some STATE → ⊥) ↔ WellFormed c
+  pub step-state :
+      (c : Channel) (ws es t sems exit : List ℕ) (r : Stepped)
+      → StepsTo c ws es t sems r exit
+      → (stepRefusal (r .answer) ≡ some STATE → ⊥) ↔ WellFormed c
+  -- opened and blank channels are
+  pub opened :
+      (level mode order : ℕ) (sli : Bool) (mask limit : ℕ) (t : List ℕ) (r : Opened)
+      → limit < 2 ^ 32
+      → Opens level mode order sli mask limit t r
+      → WellFormed (r .channel)
+  -- and puts and steps keep it
+  pub later : (c d : Channel) → WellFormed c → Later c d → WellFormed d
+  -- so an opened channel is never refused as STATE
+  pub never :
+      (level mode order : ℕ) (sli : Bool) (mask limit : ℕ) (table : List ℕ) (r : Opened) (d : Channel)
+      → limit < 2 ^ 32
+      → Opens level mode order sli mask limit table r
+      → Later (r .channel) d
+      → ((n : ℕ) (x : Put) → Puts d n x → checkRefusal (x .answer) ≡ some STATE → ⊥)
+      × ((ws es t sems exit : List ℕ) (x : Stepped) → StepsTo d ws es t sems x exit → stepRefusal (x .answer) ≡ some STATE → ⊥)

@@ -1,0 +1,92 @@
+-- STATE: "channel with a field outside its width, a read, put or return address not a multiple of 4, or a combination that 1
+-- to 4 refuse".
+use Prim.Native.Nat.{ℕ, _%_, _^_}
+use mathlib.Core.Bool.{Bool, true, not, _&&_, _||_}
+use mathlib.Core.List.{List, [], _∷_, _++_}
+use lib.Dec.{eqb, leb, ltb}
+use Rattle.word.specs.First.{choose}
+use Rattle.word.specs.Setting.{levelRefused, modeRefused, sliRefused}
+use Rattle.puller.specs.Object.{lowest, found?}
+use Rattle.puller.specs.Record.{engineOf}
+use Rattle.puller.specs.declared.record.Puller.{Puller}
+use Rattle.pusher.specs.declared.record.Setup.{Setup}
+use Rattle.pusher.specs.declared.record.Pusher.{Pusher}
+use Rattle.channel.specs.declared.record.Channel.{Channel}
+
+-- ORDER: "IB mode and ib_order above 12"
+abbrev pub orderRefused : ℕ → ℕ → Bool
+orderRefused mode order = eqb mode 1 && ltb 12 order
+
+-- "a combination that 1 to 4 refuse"; "In NV04-style ib_order is held as 0, else 13"
+unfoldable pub setupFits : Setup → Bool
+setupFits s =
+    not (levelRefused (s .setting .level .number))
+    && not (modeRefused (s .setting .level .number) (s .setting .mode .number))
+    && not (orderRefused (s .setting .mode .number) (s .order))
+    && not (sliRefused (s .setting .level .number) (s .setting .sli))
+    && (eqb (s .setting .mode .number) 1 || eqb (s .order) 0)
+
+-- a number and how many bits it may have
+pub record Width : Type 0 where
+  pub value : ℕ
+  pub bits : ℕ
+
+infix 70 _in-bits_
+abbrev pub _in-bits_ : ℕ → ℕ → Width
+v in-bits b = record { value = v; bits = b }
+
+unfoldable pub within : List Width → Bool
+within [] = true
+within (w ∷ ws) = ltb (w .value) (2 ^ w .bits) && within ws
+
+-- "read, put and dma_mget 32 bits in NV04-style, 40 in IB; ib_get and ib_put below 2^ib_order"
+unfoldable pub addressBits : Setup → ℕ
+addressBits s = choose (eqb (s .setting .mode .number) 1) 40 32
+
+abbrev pub addressWidths : Setup → Pusher → List Width
+addressWidths s p =
+    p .get in-bits addressBits s
+    ∷ p .put in-bits addressBits s
+    ∷ p .main .mget in-bits addressBits s
+    ∷ p .ib .get in-bits s .order
+    ∷ p .ib .put in-bits s .order
+    ∷ []
+
+-- "count 24 bits, SLI mask 12, method number 11", "subchannel 3"
+abbrev pub runWidths : Pusher → List Width
+runWidths p = p .run .count in-bits 24 ∷ p .sli .mask in-bits 12 ∷ p .run .method in-bits 11 ∷ p .run .subchannel in-bits 3 ∷ []
+
+-- "engine 5", of the last engine and of each of the eight that are bound
+abbrev pub engineWidths : Puller → List Width
+engineWidths p = p .last in-bits 5 ∷ []
+
+abbrev pub tooWide : Puller → ℕ → Bool
+tooWide p subchannel = leb (2 ^ 5) (engineOf p subchannel)
+
+unfoldable pub enginesFit : Puller → Bool
+enginesFit p = not (found? (lowest (tooWide p) 8))
+
+-- "all other numbers 32"
+abbrev pub otherWidths : Channel → List Width
+otherWidths c =
+    c .setup .limit in-bits 32
+    ∷ c .pusher .subroutine .back in-bits 32
+    ∷ c .puller .reference in-bits 32
+    ∷ c .puller .semaphore .dma in-bits 32
+    ∷ c .puller .semaphore .offset in-bits 32
+    ∷ c .puller .acquire .value in-bits 32
+    ∷ []
+
+abbrev pub widths : Channel → List Width
+widths c = addressWidths (c .setup) (c .pusher) ++ (runWidths (c .pusher) ++ (engineWidths (c .puller) ++ otherWidths c))
+
+-- "a read, put or return address not a multiple of 4"
+abbrev pub addresses : Pusher → List ℕ
+addresses p = p .get ∷ p .put ∷ p .subroutine .back ∷ []
+
+unfoldable pub aligned : List ℕ → Bool
+aligned [] = true
+aligned (a ∷ more) = eqb (a % 4) 0 && aligned more
+
+unfoldable pub wellFormed : Channel → Bool
+wellFormed c = setupFits (c .setup) && (within (widths c) && (aligned (addresses (c .pusher)) && enginesFit (c .puller)))

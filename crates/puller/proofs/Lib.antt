@@ -1,0 +1,8 @@
+pub mod Lowest
+pub mod Table
+pub mod Engines
+pub mod Deeds
+pub mod Causes
+pub mod Failing
+pub mod Sentences
+pub mod Promises

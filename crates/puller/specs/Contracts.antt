@@ -1,0 +1,44 @@
+-- The contracts of the public functions, each as a predicate over inputs, answer and lent memory.
+use Prim.Native.Nat.{ℕ}
+use mathlib.Core.Path.{_≡_}
+use mathlib.Core.Bool.{Bool}
+use mathlib.Core.List.{List}
+use Rattle.word.specs.declared.setting.Level.{Level}
+use Rattle.event.specs.declared.Method.{Method}
+use Rattle.puller.specs.Object.{lookupOf, repeatOf}
+use Rattle.puller.specs.Record.{number, halts}
+use Rattle.puller.specs.Taking.{releaseOf, takeOf, retryOf}
+use Rattle.puller.specs.declared.object.Found.{Found}
+use Rattle.puller.specs.declared.object.Repeat.{Repeat}
+use Rattle.puller.specs.declared.record.PullerError.{PullerError}
+use Rattle.puller.specs.declared.record.Puller.{Puller}
+use Rattle.puller.specs.declared.taking.Taken.{Taken}
+
+-- `lookup`, of a table and a handle
+abbrev pub Finds : List ℕ → ℕ → Found → Type 0
+Finds t h r = r ≡ lookupOf t h
+
+-- `first_repeat`, of a table
+abbrev pub Repeats : List ℕ → Repeat → Type 0
+Repeats t r = r ≡ repeatOf t
+
+-- `PullerError::number` and `Puller::stopped`
+abbrev pub Numbers : PullerError → ℕ → Type 0
+Numbers e r = r ≡ number e
+
+abbrev pub Halts : Puller → Bool → Type 0
+Halts p r = r ≡ halts (p .error)
+
+-- `take`, of a level, a puller, a method, a table and the semaphore memory at entry: what is taken, and the memory at exit
+pub record Takes (level : Level) (p : Puller) (m : Method) (t sems : List ℕ) (r : Taken) (exit : List ℕ) : Type 0 where
+  pub answer : r ≡ takeOf (level .number) p m t sems .taken
+  pub memory : exit ≡ takeOf (level .number) p m t sems .memory
+
+-- the part of it that writes
+pub record Releases (level : ℕ) (p : Puller) (m : Method) (sems : List ℕ) (r : Taken) (exit : List ℕ) : Type 0 where
+  pub answer : r ≡ releaseOf level p m sems .taken
+  pub memory : exit ≡ releaseOf level p m sems .memory
+
+-- `retry`, of a level, a puller and the semaphore memory, which it leaves
+abbrev pub Retries : Level → Puller → List ℕ → Taken → Type 0
+Retries level p sems r = r ≡ retryOf (level .number) p sems

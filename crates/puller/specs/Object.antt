@@ -1,0 +1,70 @@
+-- The object table.
+use Prim.Native.Nat.{ℕ, zero, suc, _+_, _*_, _/_}
+use mathlib.Core.Bool.{Bool, true, false}
+use mathlib.Core.List.{List}
+use mathlib.Core.Option.{Option, none, some}
+use lib.Dec.{eqb}
+use lib.ListN.{length, getD}
+use Rattle.word.specs.First.{choose}
+use Rattle.word.specs.Parts.{bits}
+use Rattle.puller.specs.declared.object.Object.{Object}
+use Rattle.puller.specs.declared.object.Found.{Found}
+use Rattle.puller.specs.declared.object.Found.the-variants as found
+use Rattle.puller.specs.declared.object.Repeat.{Repeat}
+use Rattle.puller.specs.declared.object.Repeat.the-variants as repeat
+
+-- the lowest number below n that passes a test, if any does
+unfoldable pub keep : Option ℕ → Option ℕ → Option ℕ
+keep none b = b
+keep (some k) b = some k
+
+unfoldable pub lowest : (ℕ → Bool) → ℕ → Option ℕ
+lowest f zero = none
+lowest f (suc n) = keep (lowest f n) (choose (f n) (some n) none)
+
+unfoldable pub found? : Option ℕ → Bool
+found? none = false
+found? (some k) = true
+
+-- "Object entry, four words": how many whole entries there are, and word k of entry i
+abbrev pub entries : List ℕ → ℕ
+entries t = length t / 4
+
+abbrev pub wordOf : List ℕ → ℕ → ℕ → ℕ
+wordOf t i k = getD t (4 * i + k) 0
+
+abbrev pub handle : List ℕ → ℕ → ℕ
+handle t i = getD t (4 * i) 0
+
+-- "handle; engine (bits 4-0); address; class (bits 15-0), write-only (bit 16), page table present (bit 17)"
+unfoldable pub objectAt : List ℕ → ℕ → Object
+objectAt t i =
+    record {
+      engine = bits 4 0 (wordOf t i 1);
+      address = wordOf t i 2;
+      class = bits 15 0 (wordOf t i 3);
+      writeonly = eqb (bits 16 16 (wordOf t i 3)) 1;
+      paged = eqb (bits 17 17 (wordOf t i 3)) 1;
+    }
+
+-- "Lookup takes the lowest matching entry"
+unfoldable pub has : List ℕ → ℕ → ℕ → Bool
+has t h i = eqb (handle t i) h
+
+unfoldable pub foundAt : List ℕ → Option ℕ → Found
+foundAt t none = found.Nothing
+foundAt t (some i) = found.Object (objectAt t i)
+
+unfoldable pub lookupOf : List ℕ → ℕ → Found
+lookupOf t h = foundAt t (lowest (has t h) (entries t))
+
+-- "the lowest entry that repeats an earlier one"
+unfoldable pub repeats : List ℕ → ℕ → Bool
+repeats t j = found? (lowest (has t (handle t j)) j)
+
+unfoldable pub repeatAt : Option ℕ → Repeat
+repeatAt none = repeat.Nothing
+repeatAt (some i) = repeat.Entry i
+
+unfoldable pub repeatOf : List ℕ → Repeat
+repeatOf t = repeatAt (lowest (repeats t) (entries t))

@@ -1,0 +1,344 @@
+-- The promises about the object table and the puller, each a statement that is proved under its own name in proofs/. They
+-- speak of the public functions through their contracts (Contracts.antt): of everything that a contract allows.
+use Prim.Native.Nat.{ℕ, _+_, _*_, _/_, _%_, _^_, _≤_, _<_}
+use mathlib.Core.Path.{_≡_}
+use mathlib.Core.Bool.{Bool, true, false}
+use mathlib.Core.List.{List}
+use mathlib.Core.Logic.{_⊎_, _↔_}
+use lib.ListN.{length, getD, set}
+use Rattle.word.specs.declared.setting.Level.{Level}
+use Rattle.event.specs.declared.Kind.the-variants as kind
+use Rattle.event.specs.declared.Method.{Method}
+use Rattle.event.specs.declared.Event.the-variants.{Plain}
+use Rattle.puller.specs.Record.{number, engineOf, withEngine, withLast, withReference, withSemaphore, withAcquire}
+use Rattle.puller.specs.Taking.{doneWith, saying, failedBy}
+use Rattle.puller.specs.Contracts.{Finds, Repeats, Numbers, Halts, Takes, Retries}
+use Rattle.puller.specs.declared.object.Object.{Object}
+use Rattle.puller.specs.declared.object.Found.{Found}
+use Rattle.puller.specs.declared.object.Found.the-variants as found
+use Rattle.puller.specs.declared.object.Repeat.{Repeat}
+use Rattle.puller.specs.declared.object.Repeat.the-variants as repeat
+use Rattle.puller.specs.declared.record.PullerError.{PullerError}
+use Rattle.puller.specs.declared.record.PullerError.the-variants as cause
+use Rattle.puller.specs.declared.record.Puller.{Puller}
+use Rattle.puller.specs.declared.taking.Taken.{Taken}
+
+-- "Object entry, four words": entry i is whole, and its handle
+abbrev pub Whole : List ℕ → ℕ → Type 0
+Whole t i = 4 * i + 3 < length t
+
+abbrev pub handleAt : List ℕ → ℕ → ℕ
+handleAt t i = getD t (4 * i) 0
+
+-- "handle; engine (bits 4-0); address; class (bits 15-0), write-only (bit 16), page table present (bit 17)": o is what entry i
+-- describes
+pub record Describes (t : List ℕ) (i : ℕ) (o : Object) : Type 0 where
+  pub engine : o .engine ≡ getD t (4 * i + 1) 0 % 2 ^ 5
+  pub address : o .address ≡ getD t (4 * i + 2) 0
+  pub class : o .class ≡ getD t (4 * i + 3) 0 % 2 ^ 16
+  pub writeonly : o .writeonly ≡ true ↔ (getD t (4 * i + 3) 0 / 2 ^ 16 % 2 ≡ 1)
+  pub paged : o .paged ≡ true ↔ (getD t (4 * i + 3) 0 / 2 ^ 17 % 2 ≡ 1)
+
+-- "Lookup takes the lowest matching entry": a handle names the object o
+pub record Names (t : List ℕ) (handle : ℕ) (o : Object) : Type 0 where
+  pub entry : ℕ
+  pub whole : Whole t entry
+  pub matches : handleAt t entry ≡ handle
+  pub lowest : (i : ℕ) → i < entry → handleAt t i ≡ handle → ⊥
+  pub describes : Describes t entry o
+
+abbrev pub NamesNone : List ℕ → ℕ → Type 0
+NamesNone t handle = (i : ℕ) → Whole t i → handleAt t i ≡ handle → ⊥
+
+-- `lookup` says so
+pub record Looks : Type 0 where
+  pub named : (t : List ℕ) (handle : ℕ) (o : Object) (r : Found) → Finds t handle r → Names t handle o → r ≡ found.Object o
+  pub unnamed : (t : List ℕ) (handle : ℕ) (r : Found) → Finds t handle r → NamesNone t handle → r ≡ found.Nothing
+  -- one or the other
+  pub always : (t : List ℕ) (handle : ℕ) (o : Object) (r : Found) → Finds t handle r → r ≡ found.Object o → Names t handle o
+  pub never : (t : List ℕ) (handle : ℕ) (r : Found) → Finds t handle r → r ≡ found.Nothing → NamesNone t handle
+
+-- entry i repeats an earlier one
+pub record Repeated (t : List ℕ) (i : ℕ) : Type 0 where
+  pub earlier : ℕ
+  pub before : earlier < i
+  pub same : handleAt t earlier ≡ handleAt t i
+
+-- "the lowest entry that repeats an earlier one"
+pub record FirstRepeat : Type 0 where
+  pub entry : (t : List ℕ) (i : ℕ) (r : Repeat) → Repeats t r → r ≡ repeat.Entry i ↔ (Whole t i × Repeated t i × ((j : ℕ) → j < i → Repeated t j → ⊥))
+  pub nothing : (t : List ℕ) (r : Repeat) → Repeats t r → r ≡ repeat.Nothing ↔ ((i : ℕ) → Whole t i → Repeated t i → ⊥)
+
+-- "below level 4 unbound, from 4 offset not valid: SEMAPHORE 2"
+abbrev pub Unready : Level → Puller → Type 0
+Unready level p = ((level .number < 4) × (p .semaphore .dma ≡ 0)) ⊎ ((4 ≤ level .number) × (p .semaphore .valid ≡ false))
+
+abbrev pub Ready : Level → Puller → Type 0
+Ready level p = ((level .number < 4) × (p .semaphore .dma ≡ 0 → ⊥)) ⊎ ((4 ≤ level .number) × (p .semaphore .valid ≡ true))
+
+-- "The word is at offset/4, rounded down": within the memory, or "Past its end: SEMAPHORE 2 below level 4, 4 from there."
+abbrev pub Inside : Puller → List ℕ → Type 0
+Inside p sems = p .semaphore .offset / 4 < length sems
+
+pub record PastEnd (level : Level) (p : Puller) (sems : List ℕ) (e : PullerError) : Type 0 where
+  pub past : length sems ≤ p .semaphore .offset / 4
+  pub below-4 : level .number < 4 → e ≡ cause.Semaphore2
+  pub from-4 : 4 ≤ level .number → e ≡ cause.Semaphore4
+
+abbrev pub wordIn : Puller → List ℕ → ℕ
+wordIn p sems = getD sems (p .semaphore .offset / 4) 0
+
+-- "Below level 4, class not 2, not write-only or page table absent"
+abbrev pub Unfit : Level → Object → Type 0
+Unfit level o = (level .number < 4) × ((o .class ≡ 2 → ⊥) ⊎ (o .writeonly ≡ false) ⊎ (o .paged ≡ false))
+
+-- the semaphore of a puller with another object, and with another offset
+abbrev pub withDma : Puller → ℕ → Puller
+withDma p a = withSemaphore p (record { dma = a; offset = p .semaphore .offset; valid = p .semaphore .valid })
+
+abbrev pub withOffset : Puller → ℕ → Bool → Puller
+withOffset p x valid = withSemaphore p (record { dma = p .semaphore .dma; offset = x; valid = valid })
+
+-- a method that neither a sentence nor "0x100 up" names
+pub record Unnamed (m : ℕ) : Type 0 where
+  pub special : m < 0x100
+  pub not-bind : m ≡ 0x00 → ⊥
+  pub not-ref : m ≡ 0x50 → ⊥
+  pub not-dma : m ≡ 0x60 → ⊥
+  pub not-offset : m ≡ 0x64 → ⊥
+  pub not-acquire : m ≡ 0x68 → ⊥
+  pub not-release : m ≡ 0x6c → ⊥
+  pub not-yield : m ≡ 0x80 → ⊥
+  pub not-logged : (m < 0x10) ⊎ (0x24 < m)
+
+-- The sentences, of any relation R between what a puller is given with a method and what it leaves: what changes, and nothing
+-- else does. Where there is an error, "no semaphore word changes".
+pub record Sentences (R : Level → Puller → Method → List ℕ → List ℕ → Taken → List ℕ → Type 0) : Type 0 where
+  -- "0x00: lookup, bind the engine. ... Otherwise forward method 0 with the object address and make it the last engine."
+  pub bind :
+      (level : Level) (p : Puller) (m : Method) (t sems exit : List ℕ) (o : Object) (r : Taken)
+      → R level p m t sems r exit
+      → m .method ≡ 0x00
+      → Names t (m .parameter) o
+      → (o .engine ≡ 0 → ⊥)
+      → (r ≡ doneWith (withLast (withEngine p (m .subchannel) (o .engine)) (o .engine)) kind.Bind m (o .address)) × (exit ≡ sems)
+  -- "Engine 0 is SOFTWARE: the binding is stored, then EMPTY_SUBCHANNEL."
+  pub bind-software :
+      (level : Level) (p : Puller) (m : Method) (t sems exit : List ℕ) (o : Object) (r : Taken)
+      → R level p m t sems r exit
+      → m .method ≡ 0x00
+      → Names t (m .parameter) o
+      → o .engine ≡ 0
+      → (r ≡ failedBy (withEngine p (m .subchannel) 0) cause.EmptySubchannel) × (exit ≡ sems)
+  -- "none is CACHE_ERROR NO_HASH", at 0x00, 0x60 and 0x180 to 0x1fc
+  pub no-hash :
+      (level : Level) (p : Puller) (m : Method) (t sems exit : List ℕ) (r : Taken)
+      → R level p m t sems r exit
+      → ((m .method ≡ 0x00) ⊎ (m .method ≡ 0x60) ⊎ ((0x180 ≤ m .method) × (m .method ≤ 0x1fc)))
+      → NamesNone t (m .parameter)
+      → (r ≡ failedBy p cause.NoHash) × (exit ≡ sems)
+  -- "0x50: ref takes the parameter."
+  pub ref :
+      (level : Level) (p : Puller) (m : Method) (t sems exit : List ℕ) (r : Taken)
+      → R level p m t sems r exit
+      → m .method ≡ 0x50
+      → (r ≡ doneWith (withReference p (m .parameter)) kind.Ref m (m .parameter)) × (exit ≡ sems)
+  -- "0x80 and 0x10 to 0x24: an event, no effect."
+  pub event :
+      (level : Level) (p : Puller) (m : Method) (t sems exit : List ℕ) (r : Taken)
+      → R level p m t sems r exit
+      → ((m .method ≡ 0x80) ⊎ ((0x10 ≤ m .method) × (m .method ≤ 0x24)))
+      → (r ≡ doneWith p kind.Event m (m .parameter)) × (exit ≡ sems)
+  -- the methods below 0x100 that no level has, and no pusher submits
+  pub unnamed :
+      (level : Level) (p : Puller) (m : Method) (t sems exit : List ℕ) (r : Taken)
+      → R level p m t sems r exit
+      → Unnamed (m .method)
+      → (r ≡ doneWith p kind.Event m (m .parameter)) × (exit ≡ sems)
+  -- "0x60: lookup. Below level 4, class not 2, not write-only or page table absent: SEMAPHORE 1."
+  pub dma-unfit :
+      (level : Level) (p : Puller) (m : Method) (t sems exit : List ℕ) (o : Object) (r : Taken)
+      → R level p m t sems r exit
+      → m .method ≡ 0x60
+      → Names t (m .parameter) o
+      → Unfit level o
+      → (r ≡ failedBy p cause.Semaphore1) × (exit ≡ sems)
+  -- "The address is stored"
+  pub dma :
+      (level : Level) (p : Puller) (m : Method) (t sems exit : List ℕ) (o : Object) (r : Taken)
+      → R level p m t sems r exit
+      → m .method ≡ 0x60
+      → Names t (m .parameter) o
+      → (Unfit level o → ⊥)
+      → (r ≡ doneWith (withDma p (o .address)) kind.Dma m (o .address)) × (exit ≡ sems)
+  -- "0x64: below level 4, any bit outside 0xffc: SEMAPHORE 1."
+  pub offset-outside :
+      (level : Level) (p : Puller) (m : Method) (t sems exit : List ℕ) (r : Taken)
+      → R level p m t sems r exit
+      → m .method ≡ 0x64
+      → level .number < 4
+      → ((m .parameter % 4 ≡ 0 → ⊥) ⊎ (m .parameter / 2 ^ 12 % 2 ^ 20 ≡ 0 → ⊥))
+      → (r ≡ failedBy p cause.Semaphore1) × (exit ≡ sems)
+  pub offset-below-4 :
+      (level : Level) (p : Puller) (m : Method) (t sems exit : List ℕ) (r : Taken)
+      → R level p m t sems r exit
+      → m .method ≡ 0x64
+      → level .number < 4
+      → m .parameter % 4 ≡ 0
+      → m .parameter / 2 ^ 12 % 2 ^ 20 ≡ 0
+      → (r ≡ doneWith (withOffset p (m .parameter) (p .semaphore .valid)) kind.Offset m (m .parameter)) × (exit ≡ sems)
+  -- "From 4: low two bits, SEMAPHORE 1; then bits 31-16, SEMAPHORE 3; stored and valid."
+  pub offset-unaligned :
+      (level : Level) (p : Puller) (m : Method) (t sems exit : List ℕ) (r : Taken)
+      → R level p m t sems r exit
+      → m .method ≡ 0x64
+      → 4 ≤ level .number
+      → (m .parameter % 4 ≡ 0 → ⊥)
+      → (r ≡ failedBy p cause.Semaphore1) × (exit ≡ sems)
+  pub offset-too-large :
+      (level : Level) (p : Puller) (m : Method) (t sems exit : List ℕ) (r : Taken)
+      → R level p m t sems r exit
+      → m .method ≡ 0x64
+      → 4 ≤ level .number
+      → m .parameter % 4 ≡ 0
+      → (m .parameter / 2 ^ 16 % 2 ^ 16 ≡ 0 → ⊥)
+      → (r ≡ failedBy p cause.Semaphore3) × (exit ≡ sems)
+  pub offset-from-4 :
+      (level : Level) (p : Puller) (m : Method) (t sems exit : List ℕ) (r : Taken)
+      → R level p m t sems r exit
+      → m .method ≡ 0x64
+      → 4 ≤ level .number
+      → m .parameter % 4 ≡ 0
+      → m .parameter / 2 ^ 16 % 2 ^ 16 ≡ 0
+      → (r ≡ doneWith (withOffset p (m .parameter) true) kind.Offset m (m .parameter)) × (exit ≡ sems)
+  -- "0x68 acquire, 0x6c release: below level 4 unbound, from 4 offset not valid: SEMAPHORE 2."
+  pub unready :
+      (level : Level) (p : Puller) (m : Method) (t sems exit : List ℕ) (r : Taken)
+      → R level p m t sems r exit
+      → ((m .method ≡ 0x68) ⊎ (m .method ≡ 0x6c))
+      → Unready level p
+      → (r ≡ failedBy p cause.Semaphore2) × (exit ≡ sems)
+  -- "Past its end: SEMAPHORE 2 below level 4, 4 from there."
+  pub past-end :
+      (level : Level) (p : Puller) (m : Method) (t sems exit : List ℕ) (e : PullerError) (r : Taken)
+      → R level p m t sems r exit
+      → ((m .method ≡ 0x68) ⊎ (m .method ≡ 0x6c))
+      → Ready level p
+      → PastEnd level p sems e
+      → (r ≡ failedBy p e) × (exit ≡ sems)
+  -- "Acquire goes on when equal,"
+  pub acquire :
+      (level : Level) (p : Puller) (m : Method) (t sems exit : List ℕ) (r : Taken)
+      → R level p m t sems r exit
+      → m .method ≡ 0x68
+      → Ready level p
+      → Inside p sems
+      → wordIn p sems ≡ m .parameter
+      → (r ≡ doneWith p kind.Acquire m (m .parameter)) × (exit ≡ sems)
+  -- "else is active and waits, its value stored."
+  pub wait :
+      (level : Level) (p : Puller) (m : Method) (t sems exit : List ℕ) (r : Taken)
+      → R level p m t sems r exit
+      → m .method ≡ 0x68
+      → Ready level p
+      → Inside p sems
+      → (wordIn p sems ≡ m .parameter → ⊥)
+      → (r ≡ doneWith (withAcquire p true (m .parameter)) kind.Wait m (m .parameter)) × (exit ≡ sems)
+  -- "Release writes that word only."
+  pub release :
+      (level : Level) (p : Puller) (m : Method) (t sems exit : List ℕ) (r : Taken)
+      → R level p m t sems r exit
+      → m .method ≡ 0x6c
+      → Ready level p
+      → Inside p sems
+      → (r ≡ doneWith p kind.Release m (m .parameter)) × (exit ≡ set sems (p .semaphore .offset / 4) (m .parameter))
+  -- "0x100 up: ... Engine 0: EMPTY_SUBCHANNEL."
+  pub forward-software :
+      (level : Level) (p : Puller) (m : Method) (t sems exit : List ℕ) (r : Taken)
+      → R level p m t sems r exit
+      → 0x100 ≤ m .method
+      → ((m .method < 0x180) ⊎ (0x1fc < m .method))
+      → engineOf p (m .subchannel) ≡ 0
+      → (r ≡ failedBy p cause.EmptySubchannel) × (exit ≡ sems)
+  -- "Else forward, and the engine becomes last."
+  pub forward :
+      (level : Level) (p : Puller) (m : Method) (t sems exit : List ℕ) (r : Taken)
+      → R level p m t sems r exit
+      → 0x100 ≤ m .method
+      → ((m .method < 0x180) ⊎ (0x1fc < m .method))
+      → (engineOf p (m .subchannel) ≡ 0 → ⊥)
+      → (r ≡ doneWith (withLast p (engineOf p (m .subchannel))) kind.Forward m (m .parameter)) × (exit ≡ sems)
+  -- "for 0x180 to 0x1fc the parameter becomes the looked-up address first"
+  pub object-software :
+      (level : Level) (p : Puller) (m : Method) (t sems exit : List ℕ) (o : Object) (r : Taken)
+      → R level p m t sems r exit
+      → 0x180 ≤ m .method
+      → m .method ≤ 0x1fc
+      → Names t (m .parameter) o
+      → engineOf p (m .subchannel) ≡ 0
+      → (r ≡ failedBy p cause.EmptySubchannel) × (exit ≡ sems)
+  pub object :
+      (level : Level) (p : Puller) (m : Method) (t sems exit : List ℕ) (o : Object) (r : Taken)
+      → R level p m t sems r exit
+      → 0x180 ≤ m .method
+      → m .method ≤ 0x1fc
+      → Names t (m .parameter) o
+      → (engineOf p (m .subchannel) ≡ 0 → ⊥)
+      → (r ≡ doneWith (withLast p (engineOf p (m .subchannel))) kind.Forward m (o .address)) × (exit ≡ sems)
+
+-- Promise 2, for the puller: `take` does what the sentences say,
+abbrev pub Pulls : Type 0
+Pulls = Sentences Takes
+
+-- and they leave no case open: whatever does what they say does what `take` does.
+abbrev pub NoOther : Type 1
+NoOther =
+    (R : Level → Puller → Method → List ℕ → List ℕ → Taken → List ℕ → Type 0)
+    → Sentences R
+    → (level : Level) (p : Puller) (m : Method) (t sems exit : List ℕ) (r : Taken)
+    → R level p m t sems r exit
+    → Takes level p m t sems r exit
+
+-- "A retry makes only the end test and the comparison; equal clears active." It has no further fields.
+pub record Retrying : Type 0 where
+  pub past-end : (level : Level) (p : Puller) (sems : List ℕ) (e : PullerError) (r : Taken) → Retries level p sems r → PastEnd level p sems e → r ≡ failedBy p e
+  pub equal :
+      (level : Level) (p : Puller) (sems : List ℕ) (r : Taken)
+      → Retries level p sems r
+      → Inside p sems
+      → wordIn p sems ≡ p .acquire .value
+      → r ≡ saying (withAcquire p false (p .acquire .value)) kind.Acquire
+  pub unequal :
+      (level : Level) (p : Puller) (sems : List ℕ) (r : Taken)
+      → Retries level p sems r
+      → Inside p sems
+      → (wordIn p sems ≡ p .acquire .value → ⊥)
+      → r ≡ saying p kind.Wait
+
+-- "Any puller error stops the channel; ... (a retry has none and stays active); no semaphore word changes."
+pub record Failing : Type 0 where
+  pub take :
+      (level : Level) (p : Puller) (m : Method) (t sems exit : List ℕ) (r : Taken)
+      → Takes level p m t sems r exit
+      → number (p .error) ≡ 0
+      → (number (r .puller .error) ≡ 0 → ⊥)
+      → (r .event ≡ Plain kind.Error) × (exit ≡ sems)
+  pub retry :
+      (level : Level) (p : Puller) (sems : List ℕ) (r : Taken)
+      → Retries level p sems r
+      → number (p .error) ≡ 0
+      → (number (r .puller .error) ≡ 0 → ⊥)
+      → r ≡ failedBy p (r .puller .error)
+
+-- Each contract leaves one outcome.
+pub record One : Type 0 where
+  pub lookup : (t : List ℕ) (handle : ℕ) (a b : Found) → Finds t handle a → Finds t handle b → a ≡ b
+  pub first-repeat : (t : List ℕ) (a b : Repeat) → Repeats t a → Repeats t b → a ≡ b
+  pub number : (e : PullerError) (a b : ℕ) → Numbers e a → Numbers e b → a ≡ b
+  pub stopped : (p : Puller) (a b : Bool) → Halts p a → Halts p b → a ≡ b
+  pub take :
+      (level : Level) (p : Puller) (m : Method) (t sems : List ℕ) (a b : Taken) (x y : List ℕ)
+      → Takes level p m t sems a x
+      → Takes level p m t sems b y
+      → (a ≡ b) × (x ≡ y)
+  pub retry : (level : Level) (p : Puller) (sems : List ℕ) (a b : Taken) → Retries level p sems a → Retries level p sems b → a ≡ b

@@ -1,0 +1,45 @@
+-- The puller's record: its errors' numbers, and the record with one thing changed.
+use Prim.Native.Nat.{ℕ}
+use mathlib.Core.Bool.{Bool, not}
+use lib.Dec.{eqb}
+use lib.ListN.{getD, set}
+use Rattle.puller.specs.declared.record.PullerError.{PullerError}
+use Rattle.puller.specs.declared.record.PullerError.the-variants as cause
+use Rattle.puller.specs.declared.record.Semaphore.{Semaphore}
+use Rattle.puller.specs.declared.record.Puller.{Puller}
+
+-- CACHE_ERROR NO_HASH and EMPTY_SUBCHANNEL, SEMAPHORE 1 to 4, in that order; 0 is none
+unfoldable pub number : PullerError → ℕ
+number cause.None = 0
+number cause.NoHash = 1
+number cause.EmptySubchannel = 2
+number cause.Semaphore1 = 3
+number cause.Semaphore2 = 4
+number cause.Semaphore3 = 5
+number cause.Semaphore4 = 6
+
+-- "Any puller error stops the channel"
+unfoldable pub halts : PullerError → Bool
+halts e = not (eqb (number e) 0)
+
+abbrev pub withError : Puller → PullerError → Puller
+withError p e = record { engines = p .engines; last = p .last; reference = p .reference; semaphore = p .semaphore; acquire = p .acquire; error = e }
+
+-- the engine of a subchannel; there are eight, and a number above them reads 0 and stores nothing
+abbrev pub engineOf : Puller → ℕ → ℕ
+engineOf p s = getD (p .engines) s 0
+
+abbrev pub withEngine : Puller → ℕ → ℕ → Puller
+withEngine p s e = record { engines = set (p .engines) s e; last = p .last; reference = p .reference; semaphore = p .semaphore; acquire = p .acquire; error = p .error }
+
+abbrev pub withLast : Puller → ℕ → Puller
+withLast p e = record { engines = p .engines; last = e; reference = p .reference; semaphore = p .semaphore; acquire = p .acquire; error = p .error }
+
+abbrev pub withReference : Puller → ℕ → Puller
+withReference p x = record { engines = p .engines; last = p .last; reference = x; semaphore = p .semaphore; acquire = p .acquire; error = p .error }
+
+abbrev pub withSemaphore : Puller → Semaphore → Puller
+withSemaphore p s = record { engines = p .engines; last = p .last; reference = p .reference; semaphore = s; acquire = p .acquire; error = p .error }
+
+abbrev pub withAcquire : Puller → Bool → ℕ → Puller
+withAcquire p a v = record { engines = p .engines; last = p .last; reference = p .reference; semaphore = p .semaphore; acquire = record { active = a; value = v }; error = p .error }

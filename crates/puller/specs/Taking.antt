@@ -1,0 +1,182 @@
+-- The paper's 'The puller': what it does with a method, and with an acquire that waits.
+use Prim.Native.Nat.{ℕ, _/_}
+use mathlib.Core.Bool.{Bool, true, false, not, _&&_, _||_}
+use mathlib.Core.List.{List, [], _∷_}
+use lib.Dec.{eqb, leb, ltb}
+use lib.ListN.{length, getD, set}
+use Rattle.word.specs.First.{choose}
+use Rattle.word.specs.Parts.{bits}
+use Rattle.event.specs.declared.Kind.{Kind}
+use Rattle.event.specs.declared.Kind.the-variants as kind
+use Rattle.event.specs.declared.Method.{Method}
+use Rattle.event.specs.declared.Event.the-variants.{Plain, Of}
+use Rattle.puller.specs.Object.{lookupOf}
+use Rattle.puller.specs.Record.{withError, engineOf, withEngine, withLast, withReference, withSemaphore, withAcquire}
+use Rattle.puller.specs.declared.object.Object.{Object}
+use Rattle.puller.specs.declared.object.Found.{Found}
+use Rattle.puller.specs.declared.object.Found.the-variants as found
+use Rattle.puller.specs.declared.record.PullerError.{PullerError}
+use Rattle.puller.specs.declared.record.PullerError.the-variants as cause
+use Rattle.puller.specs.declared.record.Puller.{Puller}
+use Rattle.puller.specs.declared.taking.Taken.{Taken}
+
+-- What a method is to the puller.
+pub data Deed : Type 0 where
+  binds refers logs bindsSemaphore offsets acquires releases forwards looksAndForwards : Deed
+
+-- methods `from` to `to`
+pub record Row : Type 0 where
+  pub from : ℕ
+  pub to : ℕ
+  pub deed : Deed
+
+abbrev row : ℕ → ℕ → Deed → Row
+row from to deed = record { from = from; to = to; deed = deed }
+
+-- "0x00: lookup, bind the engine", "0x50: ref takes the parameter", "0x80 and 0x10 to 0x24: an event, no effect", "0x60:
+-- lookup", "0x64", "0x68 acquire, 0x6c release", "for 0x180 to 0x1fc the parameter becomes the looked-up address first"
+unfoldable pub rows : List Row
+rows =
+    row 0x00 0x00 binds
+    ∷ row 0x50 0x50 refers
+    ∷ row 0x80 0x80 logs
+    ∷ row 0x10 0x24 logs
+    ∷ row 0x60 0x60 bindsSemaphore
+    ∷ row 0x64 0x64 offsets
+    ∷ row 0x68 0x68 acquires
+    ∷ row 0x6c 0x6c releases
+    ∷ row 0x180 0x1fc looksAndForwards
+    ∷ []
+
+-- "0x100 up: ... forward". The pusher submits no other method below 0x100; such a one would have no effect.
+unfoldable pub deedIn : List Row → ℕ → Deed
+deedIn [] m = choose (leb 0x100 m) forwards logs
+deedIn (r ∷ rs) m = choose (leb (r .from) m && leb m (r .to)) (r .deed) (deedIn rs m)
+
+unfoldable pub deedOf : ℕ → Deed
+deedOf m = deedIn rows m
+
+-- the event of a method taken, "param is as handed on, after any lookup"; an error has no further fields
+abbrev pub doneWith : Puller → Kind → Method → ℕ → Taken
+doneWith p k m x = record { puller = p; event = Of k (record { subchannel = m .subchannel; method = m .method; parameter = x }) }
+
+abbrev pub saying : Puller → Kind → Taken
+saying p k = record { puller = p; event = Plain k }
+
+abbrev pub failedBy : Puller → PullerError → Taken
+failedBy p e = saying (withError p e) kind.Error
+
+-- "none is CACHE_ERROR NO_HASH"
+unfoldable pub lookingUp : Puller → Found → (Object → Taken) → Taken
+lookingUp p (found.Object o) next = next o
+lookingUp p found.Nothing next = failedBy p cause.NoHash
+
+-- "Engine 0 is SOFTWARE: the binding is stored, then EMPTY_SUBCHANNEL. Otherwise forward method 0 with the object address and
+-- make it the last engine."
+unfoldable pub bindTo : Puller → Method → Object → Taken
+bindTo p m o =
+    choose (eqb (o .engine) 0) (failedBy (withEngine p (m .subchannel) (o .engine)) cause.EmptySubchannel)
+    (doneWith (withLast (withEngine p (m .subchannel) (o .engine)) (o .engine)) kind.Bind m (o .address))
+
+unfoldable pub bindOf : Puller → Method → List ℕ → Taken
+bindOf p m t = lookingUp p (lookupOf t (m .parameter)) (bindTo p m)
+
+-- "ref takes the parameter"
+abbrev pub refOf : Puller → Method → Taken
+refOf p m = doneWith (withReference p (m .parameter)) kind.Ref m (m .parameter)
+
+-- "Below level 4, class not 2, not write-only or page table absent: SEMAPHORE 1. The address is stored; 0 counts as unbound."
+unfoldable pub unfitFor : ℕ → Object → Bool
+unfitFor level o = ltb level 4 && (not (eqb (o .class) 2) || (not (o .writeonly) || not (o .paged)))
+
+unfoldable pub dmaTo : ℕ → Puller → Method → Object → Taken
+dmaTo level p m o =
+    choose (unfitFor level o) (failedBy p cause.Semaphore1)
+    (doneWith (withSemaphore p (record { dma = o .address; offset = p .semaphore .offset; valid = p .semaphore .valid })) kind.Dma m (o .address))
+
+unfoldable pub dmaOf : ℕ → Puller → Method → List ℕ → Taken
+dmaOf level p m t = lookingUp p (lookupOf t (m .parameter)) (dmaTo level p m)
+
+-- "below level 4, any bit outside 0xffc: SEMAPHORE 1. From 4: low two bits, SEMAPHORE 1; then bits 31-16, SEMAPHORE 3; stored
+-- and valid."
+abbrev pub offsetStored : Puller → Method → Bool → Taken
+offsetStored p m valid = doneWith (withSemaphore p (record { dma = p .semaphore .dma; offset = m .parameter; valid = valid })) kind.Offset m (m .parameter)
+
+unfoldable pub offsetOf : ℕ → Puller → Method → Taken
+offsetOf level p m =
+    choose (ltb level 4)
+    (choose (not (eqb (bits 1 0 (m .parameter)) 0 && eqb (bits 31 12 (m .parameter)) 0)) (failedBy p cause.Semaphore1)
+    (offsetStored p m (p .semaphore .valid)))
+    (choose (not (eqb (bits 1 0 (m .parameter)) 0)) (failedBy p cause.Semaphore1)
+    (choose (not (eqb (bits 31 16 (m .parameter)) 0)) (failedBy p cause.Semaphore3)
+    (offsetStored p m true)))
+
+-- "below level 4 unbound, from 4 offset not valid: SEMAPHORE 2"
+unfoldable pub unreadyAt : ℕ → Puller → Bool
+unreadyAt level p = choose (ltb level 4) (eqb (p .semaphore .dma) 0) (not (p .semaphore .valid))
+
+-- "The word is at offset/4, rounded down, of the semaphore memory whatever the object."
+abbrev pub placeOf : Puller → ℕ
+placeOf p = p .semaphore .offset / 4
+
+-- "Past its end: SEMAPHORE 2 below level 4, 4 from there."
+abbrev pub isPast : Puller → List ℕ → Bool
+isPast p sems = leb (length sems) (placeOf p)
+
+unfoldable pub pastEnd : ℕ → PullerError
+pastEnd level = choose (ltb level 4) cause.Semaphore2 cause.Semaphore4
+
+-- "Acquire goes on when equal"
+abbrev pub passes : Puller → List ℕ → ℕ → Bool
+passes p sems value = eqb (getD sems (placeOf p) 0) value
+
+-- "else is active and waits, its value stored"
+unfoldable pub acquireOf : ℕ → Puller → Method → List ℕ → Taken
+acquireOf level p m sems =
+    choose (unreadyAt level p) (failedBy p cause.Semaphore2)
+    (choose (isPast p sems) (failedBy p (pastEnd level))
+    (choose (passes p sems (m .parameter)) (doneWith p kind.Acquire m (m .parameter))
+    (doneWith (withAcquire p true (m .parameter)) kind.Wait m (m .parameter))))
+
+-- "A retry makes only the end test and the comparison; equal clears active." A retry has no further fields.
+unfoldable pub retryOf : ℕ → Puller → List ℕ → Taken
+retryOf level p sems =
+    choose (isPast p sems) (failedBy p (pastEnd level))
+    (choose (passes p sems (p .acquire .value)) (saying (withAcquire p false (p .acquire .value)) kind.Acquire)
+    (saying p kind.Wait))
+
+-- "Engine 0: EMPTY_SUBCHANNEL. Else forward, and the engine becomes last."
+unfoldable pub forwardOf : Puller → Method → ℕ → Taken
+forwardOf p m x =
+    choose (eqb (engineOf p (m .subchannel)) 0) (failedBy p cause.EmptySubchannel)
+    (doneWith (withLast p (engineOf p (m .subchannel))) kind.Forward m x)
+
+unfoldable pub forwardObjectOf : Puller → Method → List ℕ → Taken
+forwardObjectOf p m t = lookingUp p (lookupOf t (m .parameter)) (λ (o : Object). forwardOf p m (o .address))
+
+-- What a method leaves: the puller with its event, and the semaphore memory.
+pub record Result : Type 0 where
+  pub taken : Taken
+  pub memory : List ℕ
+
+-- "Release writes that word only."
+unfoldable pub releaseOf : ℕ → Puller → Method → List ℕ → Result
+releaseOf level p m sems =
+    choose (unreadyAt level p) (record { taken = failedBy p cause.Semaphore2; memory = sems })
+    (choose (isPast p sems) (record { taken = failedBy p (pastEnd level); memory = sems })
+    (record { taken = doneWith p kind.Release m (m .parameter); memory = set sems (placeOf p) (m .parameter) }))
+
+-- every other method leaves the memory
+unfoldable pub act : ℕ → Puller → Method → List ℕ → List ℕ → Deed → Result
+act level p m t sems binds = record { taken = bindOf p m t; memory = sems }
+act level p m t sems refers = record { taken = refOf p m; memory = sems }
+act level p m t sems logs = record { taken = doneWith p kind.Event m (m .parameter); memory = sems }
+act level p m t sems bindsSemaphore = record { taken = dmaOf level p m t; memory = sems }
+act level p m t sems offsets = record { taken = offsetOf level p m; memory = sems }
+act level p m t sems acquires = record { taken = acquireOf level p m sems; memory = sems }
+act level p m t sems releases = releaseOf level p m sems
+act level p m t sems forwards = record { taken = forwardOf p m (m .parameter); memory = sems }
+act level p m t sems looksAndForwards = record { taken = forwardObjectOf p m t; memory = sems }
+
+unfoldable pub takeOf : ℕ → Puller → Method → List ℕ → List ℕ → Result
+takeOf level p m t sems = act level p m t sems (deedOf (m .method))

@@ -1,0 +1,308 @@
+-- The promises about a move of the pusher, each under its name in specs/Promises.antt. Assumes nothing.
+use Prim.Native.Nat.{ℕ, _+_, _*_, _/_, _%_, _^_, _≤_, _<_}
+use mathlib.Core.Path.{_≡_, refl, sym, ap, _∙_}
+use mathlib.Core.Bool.{Bool, true, false, not, false≢true}
+use mathlib.Core.List.{List}
+use mathlib.Core.Logic.{_⊎_, inl, inr, ⊎-elim, _↔_}
+use native.Mathlib.Omega.{arith}
+use lib.Bits.{bitAnd}
+use lib.Dec.{eqb, ltb, leb}
+use lib.ListN.{length, getD}
+use borrow.Author.Tests.{ne-eqb, eqb-true, eqb-false, ltb-true, ltb-false, leb-true, leb-false, lt-ltb, le-ltb, not-true}
+use Rattle.word.specs.First.{choose}
+use Rattle.word.specs.Parts.{numbersIn}
+use Rattle.word.specs.Special.{presentOf}
+use Rattle.word.specs.Reading as reading
+use Rattle.word.specs.Promises.{Within}
+use Rattle.word.specs.declared.reading.Reading.{Reading}
+use Rattle.word.specs.declared.reading.Reading.the-variants.{Increasing, NonIncreasing, Sli, Return, Long, OldJump, Jump, Call, Reserved, Refused}
+use Rattle.word.proofs.First.{one-outcome, choose-true, choose-false}
+use Rattle.word.proofs.Promises.{widths}
+use Rattle.event.specs.declared.Kind.the-variants as kind
+use Rattle.pusher.specs.Record.{number, withGet, withRun}
+use Rattle.pusher.specs.Entry.{parts, entryOf}
+use Rattle.pusher.specs.Moving.{halted, faults, idles, role, act, pushOf, advanced, counted, quietly, failedBy, commanded, begun, conditional, called, returned}
+use Rattle.pusher.specs.Contracts.{Moves}
+use Rattle.pusher.specs.Promises.{Running, WordRead, ParameterRead, CommandRead, Share, EntryNext, EntryRead, sizeIn, Sentences, Pushes, NoOther, One, EntryNumbers}
+use Rattle.pusher.specs.declared.record.Setup.{Setup}
+use Rattle.pusher.specs.declared.record.Run.{Run}
+use Rattle.pusher.specs.declared.record.PusherError.the-variants as cause
+use Rattle.pusher.specs.declared.record.Pusher.{Pusher}
+use Rattle.pusher.specs.declared.moving.Pushed.{Pushed}
+use Rattle.pusher.proofs.Roles.{above-limit, past-words, past-entries, when-halted, when-words, without-ib, without-entries, when-entries}
+use Rattle.pusher.proofs.Share.{share}
+use Rattle.pusher.proofs.Sentences.{runs, stands, past-of, keeps, by-role, count-is, parameter-is, command-is, non-cache-is, discard-is, submit-is, taken, rises-of, used-up-is, entry-is, empty-is, not-main-is, main-is}
+
+-- what a word that faults, or an entry, does
+faulted : (s : Setup) (p : Pusher) (ws es : List ℕ) → role s p ws es ≡ faults → pushOf s p ws es ≡ failedBy p cause.Protection
+unfolding act
+faulted s p ws es e = by-role s p ws es faults e
+
+idled : (s : Setup) (p : Pusher) (ws es : List ℕ) → role s p ws es ≡ idles → pushOf s p ws es ≡ quietly p kind.Idle
+unfolding act
+idled s p ws es e = by-role s p ws es idles e
+
+was-stopped : (s : Setup) (p : Pusher) (ws es : List ℕ) → role s p ws es ≡ halted → pushOf s p ws es ≡ quietly p kind.Stopped
+unfolding act
+was-stopped s p ws es e = by-role s p ws es halted e
+
+-- "above dma_limit ..., or beyond the lent words"
+beyond-is : (s : Setup) (p : Pusher) (ws es : List ℕ) → Running p → (p .get ≡ p .put → ⊥) → ((s .limit < p .get) ⊎ (length ws ≤ p .get / 4)) → role s p ws es ≡ faults
+beyond-is s p ws es run n h = when-words s p ws es (runs (p .error) run) n ∙ ⊎-elim (λ l. above-limit s p ws l) (λ l. past-words s p ws l) h
+
+counted-is : (q : Pusher) (r : Run) (w : ℕ) → q .run ≡ r → counted q w ≡ quietly (withRun q (record { count = w % 2 ^ 24; method = r .method; subchannel = r .subchannel; increasing = r .increasing; awaited = false })) kind.Count
+unfolding counted
+counted-is q r w e = let low : w / 2 ^ 0 % 2 ^ 24 ≡ w % 2 ^ 24 = omega arith in rw (e, low)
+
+-- what commands do
+begun-nothing : (q : Pusher) (b m : ℕ) (up : Bool) → begun q 0 b m up ≡ quietly q kind.Command
+unfolding begun
+begun-nothing q b m up = choose-true refl _ _
+
+begun-some : (q : Pusher) (r : Run) (c b n : ℕ) (up : Bool) → q .run ≡ r → r .awaited ≡ false → (c ≡ 0 → ⊥) → begun q c b (4 * n) up ≡ quietly (withRun q (record { count = c; method = n; subchannel = b; increasing = up; awaited = false })) kind.Command
+unfolding begun
+begun-some q r c b n up e a some = let number : 4 * n / 4 ≡ n = omega arith in choose-false (ne-eqb _ _ some) _ _ ∙ rw (e, a, number)
+
+nothing-is : (q : Pusher) (x : Reading) (b m : ℕ) → ((x ≡ Increasing 0 b m) ⊎ (x ≡ NonIncreasing 0 b m)) → commanded q x ≡ quietly q kind.Command
+unfolding commanded
+nothing-is q x b m h = ⊎-elim (λ e. rw e (begun-nothing q b m true)) (λ e. rw e (begun-nothing q b m false)) h
+
+long-is : (q : Pusher) (r : Run) (b n c : ℕ) → q .run ≡ r → r .count ≡ 0 → commanded q (Long b (4 * n) c) ≡ quietly (withRun q (record { count = 0; method = n; subchannel = b; increasing = false; awaited = true })) kind.Command
+unfolding commanded
+long-is q r b n c e z = let number : 4 * n / 4 ≡ n = omega arith in rw (e, z, number)
+
+jump-is : (q : Pusher) (x : Reading) (t : ℕ) → ((x ≡ OldJump t) ⊎ (x ≡ Jump t)) → commanded q x ≡ quietly (withGet q t) kind.Command
+unfolding commanded
+jump-is q x t h = ⊎-elim (λ e. rw e) (λ e. rw e) h
+
+reserved-is : (q : Pusher) (x : Reading) → 9 ≤ reading.number x → commanded q x ≡ failedBy q cause.ReservedCmd
+unfolding commanded reading.number
+reserved-is q (Increasing c s m) h = absurd (omega arith)
+reserved-is q (NonIncreasing c s m) h = absurd (omega arith)
+reserved-is q (Sli k) h = absurd (omega arith)
+reserved-is q Return h = absurd (omega arith)
+reserved-is q (Long s m c) h = absurd (omega arith)
+reserved-is q (OldJump t) h = absurd (omega arith)
+reserved-is q (Jump t) h = absurd (omega arith)
+reserved-is q (Call t) h = absurd (omega arith)
+reserved-is q Reserved h = refl
+reserved-is q (Refused n) h = refl
+
+-- the flag that says whether the masks share a set bit
+flag-of : (k mask : ℕ) → not (eqb (bitAnd k mask) 0) ≡ true ↔ Share k mask
+flag-of k mask = (λ e. share k mask .0 (eqb-false _ _ (not-true _ e)), λ x. ap not (ne-eqb _ _ (share k mask .1 x)))
+
+flag-is : (k mask : ℕ) (active : Bool) → active ≡ true ↔ Share k mask → not (eqb (bitAnd k mask) 0) ≡ active
+flag-is k mask active h = go (eqb (bitAnd k mask) 0) active refl refl
+  where
+    go : (b a : Bool) → eqb (bitAnd k mask) 0 ≡ b → active ≡ a → not (eqb (bitAnd k mask) 0) ≡ active
+    go true true e f = absurd (share k mask .1 (h .0 f) (eqb-true _ _ e))
+    go true false e f = rw (e, f)
+    go false true e f = rw (e, f)
+    go false false e f = absurd (false≢true (sym f ∙ h .1 (share k mask .0 (eqb-false _ _ e))))
+
+pub pushes : Pushes
+unfolding commanded conditional called returned
+pushes =
+    record {
+      stopped = λ s p ws es r m h. m ∙ was-stopped s p ws es (when-halted s p ws es (stands (p .error) h));
+      idle = λ s p ws es r m run e h.
+          m
+          ∙ idled s p ws es
+          (⊎-elim (λ n. without-ib s p ws es (runs (p .error) run) e n) (λ n. without-entries s p ws es (runs (p .error) run) e n) h);
+      protection = λ s p ws es r m run n h. m ∙ faulted s p ws es (beyond-is s p ws es run n h);
+      count = λ s p q ws es w r m rd past a. m ∙ count-is s p ws es q w rd past a ∙ counted-is q (p .run) w (keeps s p q past .run);
+      non-cache = λ s p q ws es w r m rd no.
+          m ∙ parameter-is s p ws es q w rd ∙ non-cache-is s q w (rw (keeps s p q (rd .past) .run) (sym no));
+      discard = λ s p q ws es w n r m rd ri yes on off.
+          let k = keeps s p q (rd .past) in
+          m ∙ parameter-is s p ws es q w rd
+          ∙ discard-is s q w (rw (k .run) (sym yes)) on (rw (k .sli) off)
+          ∙ rw (used-up-is q (p .run) n (k .run) ri, k .run);
+      submit = λ s p q ws es w n r m rd ri yes on.
+          let k = keeps s p q (rd .past) in
+          m ∙ parameter-is s p ws es q w rd
+          ∙ submit-is s q w (rw (k .run) (sym yes)) (rw (k .sli) (taken (s .setting .sli) (p .sli .active) on))
+          ∙ rw (used-up-is q (p .run) n (k .run) ri, k .run);
+      nothing = λ s p q ws es x b n r m rd h. m ∙ command-is s p ws es q x rd ∙ nothing-is q x b n h;
+      increasing = λ s p q ws es c b n r m rd some.
+          m ∙ command-is s p ws es q _ rd ∙ begun-some q (p .run) c b n true (keeps s p q (rd .past) .run) (rd .unawaited) some;
+      non-increasing = λ s p q ws es c b n r m rd some.
+          m ∙ command-is s p ws es q _ rd ∙ begun-some q (p .run) c b n false (keeps s p q (rd .past) .run) (rd .unawaited) some;
+      long = λ s p q ws es b n c r m rd. m ∙ command-is s p ws es q _ rd ∙ long-is q (p .run) b n c (keeps s p q (rd .past) .run) (rd .none-left);
+      sli = λ s p q ws es k active r m rd h.
+          m ∙ command-is s p ws es q _ rd ∙ rw (keeps s p q (rd .past) .sli, flag-is k (p .sli .mask) active h);
+      jump = λ s p q ws es x t r m rd h. m ∙ command-is s p ws es q x rd ∙ jump-is q x t h;
+      call = λ s p q ws es t r m rd off.
+          let k = keeps s p q (rd .past) in
+          m ∙ command-is s p ws es q _ rd ∙ choose-false (rw (k .subroutine) off) _ _ ∙ rw (k .get);
+      call-inside = λ s p q ws es t r m rd on.
+          m ∙ command-is s p ws es q _ rd ∙ choose-true (rw (keeps s p q (rd .past) .subroutine) on) _ _;
+      return = λ s p q ws es r m rd on.
+          let k = keeps s p q (rd .past) in
+          m ∙ command-is s p ws es q _ rd ∙ choose-false (rw (k .subroutine, on)) _ _ ∙ rw (k .subroutine);
+      return-outside = λ s p q ws es r m rd off.
+          m ∙ command-is s p ws es q _ rd ∙ choose-true (rw (keeps s p q (rd .past) .subroutine, off)) _ _;
+      reserved = λ s p q ws es x r m rd h. m ∙ command-is s p ws es q x rd ∙ reserved-is q x h;
+      no-entry = λ s p ws es r m nx h.
+          m
+          ∙ faulted s p ws es
+          (when-entries s p ws es (runs (p .error) (nx .running)) (nx .equal) (nx .ib) (nx .unequal) ∙ past-entries p es h);
+      empty-entry = λ s p ws es e i r m rd z. m ∙ entry-is s p ws es e i rd ∙ empty-is _ e z;
+      entry-not-main = λ s p ws es e i r m rd some b. m ∙ entry-is s p ws es e i rd ∙ not-main-is _ e some b;
+      entry-main = λ s p ws es e i r m rd some b. m ∙ entry-is s p ws es e i rd ∙ main-is _ e some b;
+    }
+
+-- No case is left open: at each, the sentence that applies says of R and of `push` the same.
+module _ (R : Setup → Pusher → List ℕ → List ℕ → Pushed → Type 0) (h : Sentences R) (s : Setup) (p : Pusher) (ws es : List ℕ) (r : Pushed) (m : R s p ws es r) where
+  abbrev q : Pusher
+  q = advanced s p
+
+  push : Moves s p ws es (pushOf s p ws es)
+  push = refl
+
+  -- a parameter
+  parameter : (w : ℕ) → ParameterRead s p q ws w → r ≡ pushOf s p ws es
+  parameter w rd = go (presentOf (s .setting .level .number) (4 * p .run .method)) (s .setting .sli) (p .sli .active) refl refl refl
+    where
+      n : ℕ
+      n = choose (p .run .increasing) ((p .run .method + 1) % 2048) (p .run .method)
+
+      there : presentOf (s .setting .level .number) (4 * p .run .method) ≡ true → ((s .setting .sli ≡ false) ⊎ (p .sli .active ≡ true)) → r ≡ pushOf s p ws es
+      there e o = one-outcome (h .submit s p q ws es w n r m rd (rises-of (p .run)) (sym e) o) (pushes .submit s p q ws es w n _ push rd (rises-of (p .run)) (sym e) o)
+
+      go : (has on active : Bool) → presentOf (s .setting .level .number) (4 * p .run .method) ≡ has → s .setting .sli ≡ on → p .sli .active ≡ active → r ≡ pushOf s p ws es
+      go false on active e f g = one-outcome (h .non-cache s p q ws es w r m rd (sym e)) (pushes .non-cache s p q ws es w _ push rd (sym e))
+      go true false active e f g = there e (inl f)
+      go true true true e f g = there e (inr g)
+      go true true false e f g = one-outcome (h .discard s p q ws es w n r m rd (rises-of (p .run)) (sym e) f g) (pushes .discard s p q ws es w n _ push rd (rises-of (p .run)) (sym e) f g)
+
+  -- a command, by what it reads as; a method is 4 times its number
+  module _ (w : ℕ) (rd : WordRead s p ws w) (unawaited : p .run .awaited ≡ false) (none-left : p .run .count ≡ 0) where
+    reading-of : (x : Reading) → x ≡ reading.readOf (s .setting) w 0 → CommandRead s p q ws x
+    reading-of x e = record { word = w; read = rd; past = past-of s p; unawaited = unawaited; none-left = none-left; reads = e }
+
+    command : (x : Reading) → x ≡ reading.readOf (s .setting) w 0 → Within x → r ≡ pushOf s p ws es
+    unfolding reading.number
+    command (Increasing c b n) e wi = go (eqb c 0) refl
+      where
+        go : (z : Bool) → eqb c 0 ≡ z → r ≡ pushOf s p ws es
+        go true z =
+            let x = inl (ap (λ (k : ℕ). Increasing k b n) (eqb-true c 0 z)) in
+            one-outcome (h .nothing s p q ws es _ b n r m (reading-of _ e) x) (pushes .nothing s p q ws es _ b n _ push (reading-of _ e) x)
+        go false z =
+            let four : 4 * (n / 4) ≡ n = omega (arith, wi .3) in
+            let f = reading-of _ (ap (λ (k : ℕ). Increasing c b k) four ∙ e) in
+            one-outcome (h .increasing s p q ws es c b (n / 4) r m f (eqb-false c 0 z)) (pushes .increasing s p q ws es c b (n / 4) _ push f (eqb-false c 0 z))
+    command (NonIncreasing c b n) e wi = go (eqb c 0) refl
+      where
+        go : (z : Bool) → eqb c 0 ≡ z → r ≡ pushOf s p ws es
+        go true z =
+            let x = inr (ap (λ (k : ℕ). NonIncreasing k b n) (eqb-true c 0 z)) in
+            one-outcome (h .nothing s p q ws es _ b n r m (reading-of _ e) x) (pushes .nothing s p q ws es _ b n _ push (reading-of _ e) x)
+        go false z =
+            let four : 4 * (n / 4) ≡ n = omega (arith, wi .3) in
+            let f = reading-of _ (ap (λ (k : ℕ). NonIncreasing c b k) four ∙ e) in
+            one-outcome (h .non-increasing s p q ws es c b (n / 4) r m f (eqb-false c 0 z)) (pushes .non-increasing s p q ws es c b (n / 4) _ push f (eqb-false c 0 z))
+    command (Sli k) e wi =
+        let b = not (eqb (bitAnd k (p .sli .mask)) 0) in
+        let f = flag-of k (p .sli .mask) in
+        one-outcome (h .sli s p q ws es k b r m (reading-of _ e) f) (pushes .sli s p q ws es k b _ push (reading-of _ e) f)
+    command Return e wi = go (p .subroutine .active) refl
+      where
+        go : (a : Bool) → p .subroutine .active ≡ a → r ≡ pushOf s p ws es
+        go true a = one-outcome (h .return s p q ws es r m (reading-of _ e) a) (pushes .return s p q ws es _ push (reading-of _ e) a)
+        go false a = one-outcome (h .return-outside s p q ws es r m (reading-of _ e) a) (pushes .return-outside s p q ws es _ push (reading-of _ e) a)
+    command (Long b n c) e wi =
+        let four : 4 * (n / 4) ≡ n = omega (arith, wi .2) in
+        let f = reading-of _ (ap (λ (k : ℕ). Long b k c) four ∙ e) in
+        one-outcome (h .long s p q ws es b (n / 4) c r m f) (pushes .long s p q ws es b (n / 4) c _ push f)
+    command (OldJump t) e wi =
+        one-outcome (h .jump s p q ws es _ t r m (reading-of _ e) (inl refl)) (pushes .jump s p q ws es _ t _ push (reading-of _ e) (inl refl))
+    command (Jump t) e wi =
+        one-outcome (h .jump s p q ws es _ t r m (reading-of _ e) (inr refl)) (pushes .jump s p q ws es _ t _ push (reading-of _ e) (inr refl))
+    command (Call t) e wi = go (p .subroutine .active) refl
+      where
+        go : (a : Bool) → p .subroutine .active ≡ a → r ≡ pushOf s p ws es
+        go true a = one-outcome (h .call-inside s p q ws es t r m (reading-of _ e) a) (pushes .call-inside s p q ws es t _ push (reading-of _ e) a)
+        go false a = one-outcome (h .call s p q ws es t r m (reading-of _ e) a) (pushes .call s p q ws es t _ push (reading-of _ e) a)
+    command Reserved e wi =
+        one-outcome (h .reserved s p q ws es _ r m (reading-of _ e) (omega arith)) (pushes .reserved s p q ws es _ _ push (reading-of _ e) (omega arith))
+    command (Refused k) e wi =
+        one-outcome (h .reserved s p q ws es _ r m (reading-of _ e) (omega arith)) (pushes .reserved s p q ws es _ _ push (reading-of _ e) (omega arith))
+
+  -- a word, by whether a count is awaited and whether parameters are left
+  word : (w : ℕ) → WordRead s p ws w → r ≡ pushOf s p ws es
+  word w rd = go (p .run .awaited) (eqb (p .run .count) 0) refl refl
+    where
+      go : (a z : Bool) → p .run .awaited ≡ a → eqb (p .run .count) 0 ≡ z → r ≡ pushOf s p ws es
+      go true z e f = one-outcome (h .count s p q ws es w r m rd (past-of s p) e) (pushes .count s p q ws es w _ push rd (past-of s p) e)
+      go false true e f = command w rd e (eqb-true _ _ f) _ refl (widths (s .setting) w 0 _ refl)
+      go false false e f = parameter w (record { read = rd; past = past-of s p; unawaited = e; left = eqb-false _ _ f })
+
+  unread : Running p → (p .get ≡ p .put → ⊥) → r ≡ pushOf s p ws es
+  unread run n = go (ltb (s .limit) (p .get)) (leb (length ws) (p .get / 4)) refl refl
+    where
+      faults-both : ((s .limit < p .get) ⊎ (length ws ≤ p .get / 4)) → r ≡ pushOf s p ws es
+      faults-both o = one-outcome (h .protection s p ws es r m run n o) (pushes .protection s p ws es _ push run n o)
+
+      go : (a b : Bool) → ltb (s .limit) (p .get) ≡ a → leb (length ws) (p .get / 4) ≡ b → r ≡ pushOf s p ws es
+      go true b e f = faults-both (inl (ltb-true _ _ e))
+      go false true e f = faults-both (inr (leb-true _ _ f))
+      go false false e f = word _ (record { running = run; unequal = n; limit = ltb-false _ _ e; lent = leb-false _ _ f; word = refl })
+
+  -- an entry
+  entry : EntryNext s p → r ≡ pushOf s p ws es
+  entry nx = go (leb (length es) (p .ib .get)) refl
+    where
+      e : ℕ
+      e = getD es (p .ib .get) 0
+
+      i : ℕ
+      i = (p .ib .get + 1) % 2 ^ choose (ltb 12 (s .order)) 12 (s .order)
+
+      rd : p .ib .get < length es → EntryRead s p es e i
+      rd l =
+          record {
+            next = nx;
+            lent = l;
+            entry = refl;
+            rises = λ o. rw (choose-false (le-ltb 12 (s .order) o) 12 (s .order));
+            rises-over = λ o. rw (choose-true (lt-ltb 12 (s .order) o) 12 (s .order));
+          }
+
+      there : p .ib .get < length es → (a b : Bool) → eqb (sizeIn e) 0 ≡ a → eqb (e / 2 ^ 41 % 2) 1 ≡ b → r ≡ pushOf s p ws es
+      there l true b z f =
+          one-outcome (h .empty-entry s p ws es e i r m (rd l) (eqb-true _ _ z)) (pushes .empty-entry s p ws es e i _ push (rd l) (eqb-true _ _ z))
+      there l false true z f =
+          one-outcome (h .entry-not-main s p ws es e i r m (rd l) (eqb-false _ _ z) (eqb-true _ _ f))
+          (pushes .entry-not-main s p ws es e i _ push (rd l) (eqb-false _ _ z) (eqb-true _ _ f))
+      there l false false z f =
+          let n = eqb-false (e / 2 ^ 41 % 2) 1 f in
+          let o : e / 2 ^ 41 % 2 ≡ 0 = omega arith in
+          one-outcome (h .entry-main s p ws es e i r m (rd l) (eqb-false _ _ z) o) (pushes .entry-main s p ws es e i _ push (rd l) (eqb-false _ _ z) o)
+
+      go : (b : Bool) → leb (length es) (p .ib .get) ≡ b → r ≡ pushOf s p ws es
+      go true f = one-outcome (h .no-entry s p ws es r m nx (leb-true _ _ f)) (pushes .no-entry s p ws es _ push nx (leb-true _ _ f))
+      go false f = there (leb-false _ _ f) _ _ refl refl
+
+  moved : (a b c d : Bool) → eqb (number (p .error)) 0 ≡ a → eqb (p .get) (p .put) ≡ b → eqb (s .setting .mode .number) 1 ≡ c → eqb (p .ib .get) (p .ib .put) ≡ d → r ≡ pushOf s p ws es
+  moved false b c d e f g k = one-outcome (h .stopped s p ws es r m (eqb-false _ _ e)) (pushes .stopped s p ws es _ push (eqb-false _ _ e))
+  moved true false c d e f g k = unread (eqb-true _ _ e) (eqb-false _ _ f)
+  moved true true false d e f g k =
+      let o = inl (eqb-false (s .setting .mode .number) 1 g) in
+      one-outcome (h .idle s p ws es r m (eqb-true _ _ e) (eqb-true _ _ f) o) (pushes .idle s p ws es _ push (eqb-true _ _ e) (eqb-true _ _ f) o)
+  moved true true true true e f g k =
+      let o = inr (eqb-true (p .ib .get) (p .ib .put) k) in
+      one-outcome (h .idle s p ws es r m (eqb-true _ _ e) (eqb-true _ _ f) o) (pushes .idle s p ws es _ push (eqb-true _ _ e) (eqb-true _ _ f) o)
+  moved true true true false e f g k = entry (record { running = eqb-true _ _ e; equal = eqb-true _ _ f; ib = eqb-true _ _ g; unequal = eqb-false _ _ k })
+
+pub no-other : NoOther
+no-other R h s p ws es r m = moved R h s p ws es r m _ _ _ _ refl refl refl refl
+
+pub one : One
+one = record { push = λ s p ws es a b x y. one-outcome x y; number = λ e a b x y. one-outcome x y; stopped = λ p a b x y. one-outcome x y }
+
+pub entry-numbers : EntryNumbers
+unfolding entryOf parts numbersIn
+entry-numbers = refl

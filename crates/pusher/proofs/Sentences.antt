@@ -1,0 +1,179 @@
+-- What a move does where each of the paper's sentences applies. Assumes nothing.
+use Prim.Native.Nat.{ℕ, _+_, _*_, _/_, _%_, _^_}
+use mathlib.Core.Path.{_≡_, refl, sym, ap, _∙_}
+use mathlib.Core.Bool.{Bool, true, false, not, _&&_, and-false, false≢true}
+use mathlib.Core.List.{List}
+use native.Mathlib.Omega.{arith}
+use lib.Dec.{eqb, ltb}
+use mathlib.Core.Logic.{_⊎_, ⊎-elim}
+use borrow.Author.Tests.{eq-eqb, ne-eqb, eqb-true, eqb-false, ltb-true, ltb-false}
+use Rattle.word.specs.First.{choose}
+use Rattle.word.specs.Parts.{numbersIn}
+use Rattle.word.specs.Special.{presentOf}
+use Rattle.word.specs.declared.reading.Reading.{Reading}
+use Rattle.word.proofs.First.{choose-true, choose-false, by-test}
+use Rattle.event.specs.declared.Kind.the-variants as kind
+use Rattle.event.specs.declared.Event.the-variants.{Of}
+use Rattle.pusher.specs.Record.{number, halts, withGet, withRun, withMain, withIb}
+use Rattle.pusher.specs.Entry.{parts, entryOf}
+use Rattle.pusher.specs.Moving.{Role, counts, submits, commands, enters, wordRole, role, act, pushOf, follows, advanced, counted, quietly, failedBy, parameterOf, usedUp, rises, methodOf, commanded, nextIndex, entered, prepared}
+use Rattle.pusher.specs.Promises.{WordRead, Past, ParameterRead, CommandRead, Rises, lessOne, EntryRead, addressIn, sizeIn, atEntry}
+use Rattle.pusher.specs.declared.record.Setup.{Setup}
+use Rattle.pusher.specs.declared.record.Run.{Run}
+use Rattle.pusher.specs.declared.record.PusherError.{PusherError}
+use Rattle.pusher.specs.declared.record.PusherError.the-variants as cause
+use Rattle.pusher.specs.declared.record.Pusher.{Pusher}
+use Rattle.pusher.specs.declared.moving.Did.the-variants as did
+use Rattle.pusher.proofs.Keeps.{advanced-only}
+use Rattle.pusher.proofs.Roles.{awaits-count, inside-run, between-runs, when-words, when-entries, at-entry}
+
+-- an error's number says whether it halts
+pub runs : (e : PusherError) → number e ≡ 0 → halts e ≡ false
+unfolding halts
+runs e h = ap not (eq-eqb _ _ h)
+
+pub stands : (e : PusherError) → (number e ≡ 0 → ⊥) → halts e ≡ true
+unfolding halts
+stands e n = ap not (ne-eqb _ _ n)
+
+-- the pusher past a word, by the definition and in plain terms
+module _ (s : Setup) (p : Pusher) where
+  follow : follows s p ≡ true → advanced s p ≡ withMain (withGet p (p .get + 4)) (record { nonmain = p .main .nonmain; mget = p .get + 4; valid = true })
+  unfolding advanced
+  follow e = choose-true e _ _
+
+  leave : follows s p ≡ false → advanced s p ≡ withGet p (p .get + 4)
+  unfolding advanced
+  leave e = choose-false e _ _
+
+  pub past-is : (q : Pusher) → Past s p q → q ≡ advanced s p
+  past-is q h = go (eqb (s .setting .mode .number) 1) (p .main .nonmain) refl refl
+    where
+      go : (a b : Bool) → eqb (s .setting .mode .number) 1 ≡ a → p .main .nonmain ≡ b → q ≡ advanced s p
+      go true true e f = h .not-main f ∙ sym (leave (rw (e, f)))
+      go true false e f = h .main (eqb-true _ _ e) f ∙ (rw f) ∙ sym (follow (rw (e, f)))
+      go false b e f = h .nv04-style (eqb-false _ _ e) ∙ sym (leave (rw e))
+
+  pub past-of : Past s p (advanced s p)
+  past-of =
+      record {
+        nv04-style = λ n. leave (rw (ne-eqb (s .setting .mode .number) 1 n));
+        not-main = λ f. leave (rw (f, and-false));
+        main = λ m f. follow (rw (eq-eqb (s .setting .mode .number) 1 m, f)) ∙ rw f;
+      }
+
+  -- it has the read address four higher, and the same run, subroutine and SLI
+  pub record Keeps (q : Pusher) : Type 0 where
+    pub get : q .get ≡ p .get + 4
+    pub run : q .run ≡ p .run
+    pub subroutine : q .subroutine ≡ p .subroutine
+    pub sli : q .sli ≡ p .sli
+
+  pub keeps : (q : Pusher) → Past s p q → Keeps q
+  keeps q h =
+      let only = past-is q h ∙ advanced-only s p in
+      record {
+        get = ap (λ (x : Pusher). x .get) only;
+        run = ap (λ (x : Pusher). x .run) only;
+        subroutine = ap (λ (x : Pusher). x .subroutine) only;
+        sli = ap (λ (x : Pusher). x .sli) only;
+      }
+
+module _ (s : Setup) (p : Pusher) (ws es : List ℕ) where
+  pub by-role : (x : Role) → role s p ws es ≡ x → pushOf s p ws es ≡ act s p ws es x
+  unfolding pushOf
+  by-role x e = ap (λ (y : Role). act s p ws es y) e
+
+  -- a word read: as a count, as a parameter, as a command
+  word-role : (w : ℕ) → WordRead s p ws w → role s p ws es ≡ wordRole s p ws
+  word-role w h = when-words s p ws es (runs (p .error) (h .running)) (h .unequal)
+
+  pub count-is : (q : Pusher) (w : ℕ) → WordRead s p ws w → Past s p q → p .run .awaited ≡ true → pushOf s p ws es ≡ counted q w
+  unfolding act
+  count-is q w h past a =
+      by-role counts (word-role w h ∙ awaits-count s p ws (h .limit) (h .lent) a) ∙ rw (past-is s p q past, h .word)
+
+  pub parameter-is : (q : Pusher) (w : ℕ) → ParameterRead s p q ws w → pushOf s p ws es ≡ parameterOf s q w
+  unfolding act
+  parameter-is q w h =
+      by-role submits (word-role w (h .read) ∙ inside-run s p ws (h .read .limit) (h .read .lent) (h .unawaited) (h .left))
+      ∙ rw (past-is s p q (h .past), h .read .word)
+
+  pub command-is : (q : Pusher) (x : Reading) → CommandRead s p q ws x → pushOf s p ws es ≡ commanded q x
+  unfolding act
+  command-is q x h =
+      by-role commands (word-role (h .word) (h .read) ∙ between-runs s p ws (h .read .limit) (h .read .lent) (h .unawaited) (h .none-left))
+      ∙ rw (past-is s p q (h .past), h .reads, h .read .word)
+
+-- a parameter
+module _ (s : Setup) (q : Pusher) (w : ℕ) where
+  pub non-cache-is : presentOf (s .setting .level .number) (4 * q .run .method) ≡ false → parameterOf s q w ≡ failedBy q cause.NonCache
+  unfolding parameterOf
+  non-cache-is e = choose-true (rw e) _ _
+
+  module _ (e : presentOf (s .setting .level .number) (4 * q .run .method) ≡ true) where
+    pub discard-is : s .setting .sli ≡ true → q .sli .active ≡ false → parameterOf s q w ≡ record { pusher = usedUp q; did = did.Event (Of kind.Discard (methodOf q w)) }
+    unfolding parameterOf
+    discard-is on off = choose-false (rw e) _ _ ∙ choose-true (rw (on, off)) _ _
+
+    pub submit-is : (s .setting .sli && not (q .sli .active)) ≡ false → parameterOf s q w ≡ record { pusher = usedUp q; did = did.Submit (methodOf q w) }
+    unfolding parameterOf
+    submit-is f = choose-false (rw e) _ _ ∙ choose-false f _ _
+
+-- SLI off, or active
+pub taken : (on active : Bool) → (on ≡ false) ⊎ (active ≡ true) → (on && not active) ≡ false
+taken false active h = refl
+taken true true h = refl
+taken true false h = absurd (⊎-elim (λ e. false≢true (sym e)) (λ e. false≢true e) h)
+
+-- the method after a parameter
+pub rises-is : (r : Run) (n : ℕ) → Rises r n → choose (r .increasing) ((r .method + 1) % 2048) (r .method) ≡ n
+rises-is r n h = by-test (λ (x : ℕ). x ≡ n) (λ e. sym (h .increasing e)) (λ e. sym (h .other e))
+
+pub rises-of : (r : Run) → Rises r (choose (r .increasing) ((r .method + 1) % 2048) (r .method))
+rises-of r = record { increasing = λ e. choose-true e _ _; other = λ e. choose-false e _ _ }
+
+pub used-up-is : (q : Pusher) (r : Run) (n : ℕ) → q .run ≡ r → Rises r n → usedUp q ≡ withRun q (lessOne r n)
+used-up-is q r n e h = rw (e, rises-is r n h)
+
+-- the ring of entries
+pub following-is : (s : Setup) (p : Pusher) (es : List ℕ) (e i : ℕ) → EntryRead s p es e i → nextIndex (s .order) (p .ib .get) ≡ i
+unfolding nextIndex
+following-is s p es e i h = go (ltb 12 (s .order)) refl
+  where
+    go : (b : Bool) → ltb 12 (s .order) ≡ b → (p .ib .get + 1) % 2 ^ choose (ltb 12 (s .order)) 12 (s .order) ≡ i
+    go true e = rw (choose-true e 12 (s .order)) (sym (h .rises-over (ltb-true _ _ e)))
+    go false e = rw (choose-false e 12 (s .order)) (sym (h .rises (ltb-false _ _ e)))
+
+-- an entry that is there
+module _ (s : Setup) (p : Pusher) (ws es : List ℕ) (e i : ℕ) (h : EntryRead s p es e i) where
+  pub entry-is : pushOf s p ws es ≡ entered (withIb p i (p .ib .put)) (entryOf e)
+  unfolding act
+  entry-is =
+      by-role s p ws es enters
+      (when-entries s p ws es (runs (p .error) (h .next .running)) (h .next .equal) (h .next .ib) (h .next .unequal) ∙ at-entry p es (h .lent))
+      ∙ rw (following-is s p es e i h, h .entry)
+
+module _ (p : Pusher) (e : ℕ) where
+  prepared-not-main : e / 2 ^ 41 % 2 ≡ 1 → prepared p (entryOf e) ≡ atEntry p e true (p .main .mget)
+  unfolding prepared entryOf parts numbersIn choose
+  prepared-not-main b = rw (eq-eqb _ _ b)
+
+  prepared-main : e / 2 ^ 41 % 2 ≡ 0 → prepared p (entryOf e) ≡ atEntry p e false (addressIn e)
+  unfolding prepared entryOf parts numbersIn choose
+  prepared-main b = rw (ne-eqb (e / 2 ^ 41 % 2) 1 (omega arith))
+
+  pub empty-is : sizeIn e ≡ 0 → entered p (entryOf e) ≡ failedBy p cause.Ib
+  unfolding entered entryOf parts numbersIn
+  empty-is z = choose-true (eq-eqb _ _ z) _ _
+
+  module _ (some : sizeIn e ≡ 0 → ⊥) where
+    filled : entered p (entryOf e) ≡ quietly (prepared p (entryOf e)) kind.Entry
+    unfolding entered entryOf parts numbersIn
+    filled = choose-false (ne-eqb _ _ some) _ _
+
+    pub not-main-is : e / 2 ^ 41 % 2 ≡ 1 → entered p (entryOf e) ≡ quietly (atEntry p e true (p .main .mget)) kind.Entry
+    not-main-is b = filled ∙ rw (prepared-not-main b)
+
+    pub main-is : e / 2 ^ 41 % 2 ≡ 0 → entered p (entryOf e) ≡ quietly (atEntry p e false (addressIn e)) kind.Entry
+    main-is b = filled ∙ rw (prepared-main b)

@@ -1,0 +1,5 @@
+pub mod Record
+pub mod Entry
+pub mod Moving
+pub mod Contracts
+pub mod Promises

@@ -1,0 +1,47 @@
+-- The pusher's record: its errors' numbers, and the record with one thing changed.
+use Prim.Native.Nat.{ℕ}
+use mathlib.Core.Bool.{Bool, not}
+use lib.Dec.{eqb}
+use Rattle.pusher.specs.declared.record.PusherError.{PusherError}
+use Rattle.pusher.specs.declared.record.PusherError.the-variants as cause
+use Rattle.pusher.specs.declared.record.Run.{Run}
+use Rattle.pusher.specs.declared.record.Main.{Main}
+use Rattle.pusher.specs.declared.record.Pusher.{Pusher}
+
+-- "Pusher errors: 1 CALL, 2 NON_CACHE, 3 RETURN, 4 RESERVED_CMD, 5 IB, 6 PROTECTION"; 0 is none
+unfoldable pub number : PusherError → ℕ
+number cause.None = 0
+number cause.Call = 1
+number cause.NonCache = 2
+number cause.Return = 3
+number cause.ReservedCmd = 4
+number cause.Ib = 5
+number cause.Protection = 6
+
+-- "Stopped by an error"
+unfoldable pub halts : PusherError → Bool
+halts e = not (eqb (number e) 0)
+
+abbrev pub withError : Pusher → PusherError → Pusher
+withError p e = record { get = p .get; put = p .put; run = p .run; subroutine = p .subroutine; ib = p .ib; main = p .main; sli = p .sli; error = e }
+
+abbrev pub withGet : Pusher → ℕ → Pusher
+withGet p a = record { get = a; put = p .put; run = p .run; subroutine = p .subroutine; ib = p .ib; main = p .main; sli = p .sli; error = p .error }
+
+abbrev pub withPut : Pusher → ℕ → Pusher
+withPut p a = record { get = p .get; put = a; run = p .run; subroutine = p .subroutine; ib = p .ib; main = p .main; sli = p .sli; error = p .error }
+
+abbrev pub withRun : Pusher → Run → Pusher
+withRun p r = record { get = p .get; put = p .put; run = r; subroutine = p .subroutine; ib = p .ib; main = p .main; sli = p .sli; error = p .error }
+
+abbrev pub withSubroutine : Pusher → Bool → ℕ → Pusher
+withSubroutine p a b = record { get = p .get; put = p .put; run = p .run; subroutine = record { active = a; back = b }; ib = p .ib; main = p .main; sli = p .sli; error = p .error }
+
+abbrev pub withIb : Pusher → ℕ → ℕ → Pusher
+withIb p g q = record { get = p .get; put = p .put; run = p .run; subroutine = p .subroutine; ib = record { get = g; put = q }; main = p .main; sli = p .sli; error = p .error }
+
+abbrev pub withMain : Pusher → Main → Pusher
+withMain p m = record { get = p .get; put = p .put; run = p .run; subroutine = p .subroutine; ib = p .ib; main = m; sli = p .sli; error = p .error }
+
+abbrev pub withActive : Pusher → Bool → Pusher
+withActive p a = record { get = p .get; put = p .put; run = p .run; subroutine = p .subroutine; ib = p .ib; main = p .main; sli = record { mask = p .sli .mask; active = a }; error = p .error }
