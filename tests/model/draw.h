@@ -24,6 +24,12 @@ static inline uint32_t draw_below(struct draw *draw, uint32_t limit)
     return draw_number(draw) % limit;
 }
 
+/* True once in so many times. */
+static inline bool draw_once_in(struct draw *draw, uint32_t times)
+{
+    return draw_below(draw, times) == 0;
+}
+
 /* A word: one in five is any word, the others lean to bits 1-0 = 00 and to upper halves 0 to 4, since few
  * words at large are SLI conditionals, returns or long forms. */
 static inline uint32_t draw_word(struct draw *draw)

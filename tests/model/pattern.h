@@ -5,6 +5,8 @@
 
 #include <stdint.h>
 
+#include "draw.h"
+
 enum { PATTERNS = 8 };
 
 /* Bit 31 first; the pattern of reading number n is at n - 1. */
@@ -51,6 +53,14 @@ static inline uint32_t spread(uint32_t mask, uint32_t number)
         if (mask >> i & 1)
             word |= (number >> place++ & 1) << i;
     return word;
+}
+
+/* A word that has a pattern's form, its fields drawn. */
+static inline uint32_t draw_form(struct draw *draw, const char *pattern)
+{
+    uint32_t fixed = pattern_bits(pattern, '0') | pattern_bits(pattern, '1');
+
+    return (draw_number(draw) & ~fixed) | pattern_bits(pattern, '1');
 }
 
 #endif

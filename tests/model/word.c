@@ -6,8 +6,8 @@ static uint32_t bits(uint32_t word, unsigned high, unsigned low)
     return (word >> low) & (UINT32_MAX >> (31 - (high - low)));
 }
 
-/* "The first in order is given": LEVEL, MODE, SLI head every order of reading and writing. */
-static uint32_t setting_refusal(struct setting setting)
+/* "The first in order is given" */
+uint32_t model_setting_refusal(struct setting setting)
 {
     /* "level above 5" */
     if (setting.level > 5)
@@ -156,7 +156,7 @@ static struct reading read_accepted(struct setting setting, uint32_t word, uint3
 
 struct reading model_read(struct setting setting, uint32_t word, uint32_t next)
 {
-    uint32_t refusal = setting_refusal(setting);
+    uint32_t refusal = model_setting_refusal(setting);
 
     if (refusal != REFUSAL_NONE)
         return reading(READING_REFUSED, refusal, 0, 0);
@@ -165,7 +165,7 @@ struct reading model_read(struct setting setting, uint32_t word, uint32_t next)
 
 struct reading model_read_at(struct setting setting, const uint32_t *words, size_t count, uint64_t place)
 {
-    uint32_t refusal = setting_refusal(setting);
+    uint32_t refusal = model_setting_refusal(setting);
     uint32_t next;
 
     /* "Reading a word, listing: 1, 2, 4, 8." */
@@ -217,7 +217,7 @@ static bool fields_fit(struct reading command)
 /* "Writer: 1, 2, 4, 10, 12, 11." A field that is wrong is told even where the form isn't available. */
 static uint32_t write_refusal(struct setting setting, struct reading command, uint32_t count, size_t room)
 {
-    uint32_t refusal = setting_refusal(setting);
+    uint32_t refusal = model_setting_refusal(setting);
 
     if (refusal != REFUSAL_NONE)
         return refusal;

@@ -60,6 +60,9 @@ struct written {
     uint32_t count;
 };
 
+/* The refusals that head every order, LEVEL, MODE and SLI: the first that a setting meets, or none. */
+uint32_t model_setting_refusal(struct setting setting);
+
 /* Reads a word; the next word matters to the long form alone. */
 struct reading model_read(struct setting setting, uint32_t word, uint32_t next);
 

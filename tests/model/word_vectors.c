@@ -7,41 +7,11 @@
  * Lent words after the fourth are 0. The four words of an output hold 0xa5a50000 to 0xa5a50003 before; the
  * first `room` of them are lent. With --counts it prints how many records there are of each kind, and how
  * many per answer, instead. */
-#include <stdio.h>
-#include <string.h>
-
-#include "draw.h"
 #include "pattern.h"
+#include "vectors.h"
 #include "word.h"
 
-enum { READ = 1, READ_AT = 2, WRITE = 3, PRESENT = 4, KINDS = 5, ANSWERS = 16 };
-
-/* The numbers still to be drawn, and the records counted so far. */
-struct vectors {
-    struct draw draw;
-    bool counting;
-    unsigned long records[KINDS];
-    unsigned long answers[KINDS][ANSWERS];
-};
-
-static void put_word(uint32_t word)
-{
-    for (unsigned i = 0; i < 4; i++)
-        putchar((int)(word >> (8 * i) & 0xff));
-}
-
-/* One record of a kind, with the answer that it is counted under. */
-static void put_record(struct vectors *vectors, uint32_t kind, const uint32_t *words, size_t count,
-                       uint32_t answer)
-{
-    vectors->records[kind]++;
-    vectors->answers[kind][answer]++;
-    if (vectors->counting)
-        return;
-    put_word(kind);
-    for (size_t i = 0; i < count; i++)
-        put_word(words[i]);
-}
+enum { READ = 1, READ_AT = 2, WRITE = 3, PRESENT = 4 };
 
 /* ---- Settings ---- */
 
@@ -82,14 +52,6 @@ static void put_read(struct vectors *vectors, struct setting setting, uint32_t w
 static void put_read_any(struct vectors *vectors, struct setting setting, uint32_t word)
 {
     put_read(vectors, setting, word, draw_number(&vectors->draw));
-}
-
-/* A word that has a pattern's form, its fields drawn. */
-static uint32_t draw_form(struct draw *draw, const char *pattern)
-{
-    uint32_t fixed = pattern_bits(pattern, '0') | pattern_bits(pattern, '1');
-
-    return (draw_number(draw) & ~fixed) | pattern_bits(pattern, '1');
 }
 
 /* Half the time a word of one of the forms, half the time a word that may be anything. */
@@ -386,33 +348,19 @@ static void put_presents(struct vectors *vectors)
 
 /* ---- The program ---- */
 
-/* One line for each kind: its records, then the records for each answer that came: for READ and READ_AT the
- * reading's number, for WRITE the refusal's, for PRESENT 0 or 1. */
-static void print_counts(const struct vectors *vectors)
-{
-    static const char *const names[KINDS] = {"", "READ", "READ_AT", "WRITE", "PRESENT"};
-
-    for (unsigned kind = READ; kind < KINDS; kind++) {
-        printf("%s %lu:", names[kind], vectors->records[kind]);
-        for (unsigned answer = 0; answer < ANSWERS; answer++)
-            if (vectors->answers[kind][answer] != 0)
-                printf(" %u=%lu", answer, vectors->answers[kind][answer]);
-        putchar('\n');
-    }
-}
-
 int main(int count, char **arguments)
 {
+    /* READ and READ_AT are counted by the reading's number, WRITE by the refusal's, PRESENT by 0 or 1. */
+    static const char *const names[] = {"READ", "READ_AT", "WRITE", "PRESENT"};
     static struct vectors vectors = {.draw = {0x5eed}};
 
-    vectors.counting = count == 2 && strcmp(arguments[1], "--counts") == 0;
-    if (count > 1 && !vectors.counting)
+    if (!read_arguments(&vectors, count, arguments))
         return 2;
     put_reads(&vectors);
     put_read_ats(&vectors);
     put_writes(&vectors);
     put_presents(&vectors);
     if (vectors.counting)
-        print_counts(&vectors);
-    return fflush(stdout) != 0 || ferror(stdout) ? 1 : 0;
+        print_counts(&vectors, names, sizeof names / sizeof names[0]);
+    return end_of_output();
 }

@@ -23,7 +23,6 @@ use Rattle.event.specs.declared.Event.the-variants.{Plain}
 use Rattle.puller.specs.Object.{repeatOf}
 use Rattle.puller.specs.Record as puller-record
 use Rattle.puller.specs.Taking.{takeOf, retryOf}
-use Rattle.puller.specs.Contracts.{Takes}
 use Rattle.puller.specs.declared.object.Repeat.the-variants as repeat
 use Rattle.puller.specs.declared.taking.Taken.{Taken}
 use Rattle.puller.proofs.Promises.{looks, first-repeat, pulls, retrying}
@@ -286,11 +285,15 @@ module _ (R : Channel → List ℕ → List ℕ → List ℕ → List ℕ → St
   abbrev outcome : stepping.Outcome
   outcome = stepping.stepOf c ws es t sems
 
-  itself : StepsTo c ws es t sems (outcome .stepped) (outcome .memory)
-  itself = record { answer = refl; memory = refl }
-
-  both-leave : {x : Stepped} {y : List ℕ} → (r ≡ x) × (exit ≡ y) → (outcome .stepped ≡ x) × (outcome .memory ≡ y) → StepsTo c ws es t sems r exit
-  both-leave a b = record { answer = one-outcome (a .0) (b .0); memory = one-outcome (a .1) (b .1) }
+  -- what a sentence says, of whatever relation
+  said :
+      {x : Stepped} {y : List ℕ}
+      → ((Q : Channel → List ℕ → List ℕ → List ℕ → List ℕ → Stepped → List ℕ → Type 0) → Sentences Q → (z : Stepped) (e : List ℕ) → Q c ws es t sems z e → (z ≡ x) × (e ≡ y))
+      → StepsTo c ws es t sems r exit
+  said f =
+      let a = f R s r exit m in
+      let b = f StepsTo says (outcome .stepped) (outcome .memory) (record { answer = refl; memory = refl }) in
+      record { answer = one-outcome (a .0) (b .0); memory = one-outcome (a .1) (b .1) }
 
   module _ (k : Takable c ws t sems) where
     abbrev after : Pusher
@@ -299,29 +302,27 @@ module _ (R : Channel → List ℕ → List ℕ → List ℕ → List ℕ → St
     moves-same : Running c → c .puller .acquire .active ≡ false → (d : Did) → pushOf (c .setup) (c .pusher) ws es .did ≡ d → StepsTo c ws es t sems r exit
     moves-same run a (did.Event e) d =
         let x : Moves (c .setup) (c .pusher) ws es (record { pusher = after; did = did.Event e }) = rw d in
-        both-leave (s .move c ws es t sems exit after e r m k run a x) (says .move c ws es t sems _ after e _ itself k run a x)
+        said (λ Q q z y b. q .move c ws es t sems y after e z b k run a x)
     moves-same run a (did.Submit n) d =
         let x : Moves (c .setup) (c .pusher) ws es (record { pusher = after; did = did.Submit n }) = rw d in
         let o = takeOf (c .setup .setting .level .number) (c .puller) n t sems in
-        let y : Takes (c .setup .setting .level) (c .puller) n t sems (o .taken) (o .memory) = record { answer = refl; memory = refl } in
-        both-leave (s .submit c ws es t sems exit (o .memory) after n (o .taken) r m k run a x y) (says .submit c ws es t sems _ (o .memory) after n (o .taken) _ itself k run a x y)
+        said (λ Q q z y b. q .submit c ws es t sems y (o .memory) after n (o .taken) z b k run a x (record { answer = refl; memory = refl }))
 
-    takes-same : (a b d : Bool) → eqb (pusher-record.number (c .pusher .error)) 0 ≡ a → eqb (puller-record.number (c .puller .error)) 0 ≡ b → c .puller .acquire .active ≡ d → StepsTo c ws es t sems r exit
-    takes-same false b d e f g =
-        let n : (Running c → ⊥) = λ x. eqb-false _ _ e (x .0) in
-        both-leave (s .stopped c ws es t sems exit r m k n) (says .stopped c ws es t sems _ _ itself k n)
-    takes-same true false d e f g =
-        let n : (Running c → ⊥) = λ x. eqb-false _ _ f (x .1) in
-        both-leave (s .stopped c ws es t sems exit r m k n) (says .stopped c ws es t sems _ _ itself k n)
-    takes-same true true true e f g =
-        let run : Running c = (eqb-true _ _ e, eqb-true _ _ f) in
-        both-leave (s .retry c ws es t sems exit _ r m k run g refl) (says .retry c ws es t sems _ _ _ itself k run g refl)
+    takes-same :
+        (a b d : Bool)
+        → eqb (pusher-record.number (c .pusher .error)) 0 ≡ a
+        → eqb (puller-record.number (c .puller .error)) 0 ≡ b
+        → c .puller .acquire .active ≡ d
+        → StepsTo c ws es t sems r exit
+    takes-same false b d e f g = said (λ Q q z y x. q .stopped c ws es t sems y z x k (λ run. eqb-false _ _ e (run .0)))
+    takes-same true false d e f g = said (λ Q q z y x. q .stopped c ws es t sems y z x k (λ run. eqb-false _ _ f (run .1)))
+    takes-same true true true e f g = said (λ Q q z y x. q .retry c ws es t sems y _ z x k (eqb-true _ _ e, eqb-true _ _ f) g refl)
     takes-same true true false e f g = moves-same (eqb-true _ _ e, eqb-true _ _ f) g _ refl
 
   by-first : (o : Option ℕ) → first (stepping.stepCases c ws t sems) ≡ o → StepsTo c ws es t sems r exit
   by-first (some n) e =
       let f = first-is (stepping.stepCases c ws t sems) (stepPlain c ws t sems) (step-agree c ws t sems) n .0 e in
-      both-leave (s .refused c ws es t sems exit n r m f) (says .refused c ws es t sems _ n _ itself f)
+      said (λ Q q z y x. q .refused c ws es t sems y n z x f)
   by-first none e =
       let n = none-of (stepping.stepCases c ws t sems) (stepPlain c ws t sems) (step-agree c ws t sems) e in
       let over-words : (1048576 < length ws → ⊥) = λ l. n .1 .0 (inl l) in

@@ -1,6 +1,62 @@
--- The promise about kinds, under its name in specs/Promises.antt. Assumes nothing.
-use mathlib.Core.Path.{sym, _∙_}
-use Rattle.event.specs.Promises.{One}
+-- The promises about kinds and events, each under its name in specs/Promises.antt. Assumes nothing.
+use Prim.Native.Nat.{ℕ, _-_}
+use mathlib.Core.Path.{_≡_, refl, sym, ap, ap₂, _∙_}
+use mathlib.Core.List.{List, [], _∷_}
+use native.Mathlib.Omega.{arith}
+use lib.ListN.{length, getD}
+use Rattle.event.specs.Event.{number, values}
+use Rattle.event.specs.Promises.{One, Told}
+use Rattle.event.specs.declared.Kind.{Kind}
+use Rattle.event.specs.declared.Kind.the-variants as kind
+use Rattle.event.specs.declared.Method.{Method}
+use Rattle.event.specs.declared.Event.the-variants.{Plain, Of}
 
 pub one : One
 one k a b x y = x ∙ sym y
+
+-- the kind with a number, so that two kinds with one number are one kind
+kindOf : ℕ → Kind
+kindOf n =
+    getD
+    (kind.Command ∷ kind.Count ∷ kind.Bind ∷ kind.Ref ∷ kind.Event ∷ kind.Dma ∷ kind.Offset ∷ kind.Acquire ∷ kind.Release ∷ kind.Wait ∷ kind.Forward ∷ kind.Error ∷ kind.Entry ∷ kind.Discard ∷ kind.Idle ∷ [])
+    (n - 1)
+    kind.Stopped
+
+kind-of : (k : Kind) → kindOf (number k) ≡ k
+unfolding number kindOf
+kind-of kind.Command = refl
+kind-of kind.Count = refl
+kind-of kind.Bind = refl
+kind-of kind.Ref = refl
+kind-of kind.Event = refl
+kind-of kind.Dma = refl
+kind-of kind.Offset = refl
+kind-of kind.Acquire = refl
+kind-of kind.Release = refl
+kind-of kind.Wait = refl
+kind-of kind.Forward = refl
+kind-of kind.Error = refl
+kind-of kind.Entry = refl
+kind-of kind.Discard = refl
+kind-of kind.Idle = refl
+kind-of kind.Stopped = refl
+
+-- the number at a place of two lists that are equal
+at : (i : ℕ) {l m : List ℕ} → l ≡ m → getD l i 0 ≡ getD m i 0
+at i e = ap (λ (l : List ℕ). getD l i 0) e
+
+same-kind : (j k : Kind) → number j ≡ number k → j ≡ k
+same-kind j k e = sym (kind-of j) ∙ ap kindOf e ∙ kind-of k
+
+same-method : (m n : Method) → m .subchannel ≡ n .subchannel → m .method ≡ n .method → m .parameter ≡ n .parameter → m ≡ n
+same-method m n a b c =
+    ap (λ (x : ℕ). record { subchannel = x; method = m .method; parameter = m .parameter }) a
+    ∙ ap (λ (x : ℕ). record { subchannel = n .subchannel; method = x; parameter = m .parameter }) b
+    ∙ ap (λ (x : ℕ). record { subchannel = n .subchannel; method = n .method; parameter = x }) c
+
+pub told : Told
+unfolding values
+told (Plain j) (Plain k) e = ap Plain (same-kind j k (at 0 e))
+told (Plain j) (Of k n) e = let z : _≡_ {A = ℕ} 1 4 = ap length e in absurd (omega arith)
+told (Of j m) (Plain k) e = let z : _≡_ {A = ℕ} 4 1 = ap length e in absurd (omega arith)
+told (Of j m) (Of k n) e = ap₂ Of (same-kind j k (at 0 e)) (same-method m n (at 1 e) (at 2 e) (at 3 e))

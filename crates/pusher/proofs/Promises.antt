@@ -155,104 +155,91 @@ pushes =
 
 -- No case is left open: at each, the sentence that applies says of R and of `push` the same.
 module _ (R : Setup → Pusher → List ℕ → List ℕ → Pushed → Type 0) (h : Sentences R) (s : Setup) (p : Pusher) (ws es : List ℕ) (r : Pushed) (m : R s p ws es r) where
+  -- what a sentence says, of whatever relation
+  said : {x : Pushed} → ((Q : Setup → Pusher → List ℕ → List ℕ → Pushed → Type 0) → Sentences Q → (y : Pushed) → Q s p ws es y → y ≡ x) → Moves s p ws es r
+  said f = one-outcome (f R h r m) (f Moves pushes (pushOf s p ws es) refl)
+
   abbrev q : Pusher
   q = advanced s p
 
-  push : Moves s p ws es (pushOf s p ws es)
-  push = refl
-
   -- a parameter
-  parameter : (w : ℕ) → ParameterRead s p q ws w → r ≡ pushOf s p ws es
+  parameter : (w : ℕ) → ParameterRead s p q ws w → Moves s p ws es r
   parameter w rd = go (presentOf (s .setting .level .number) (4 * p .run .method)) (s .setting .sli) (p .sli .active) refl refl refl
     where
-      n : ℕ
-      n = choose (p .run .increasing) ((p .run .method + 1) % 2048) (p .run .method)
-
-      there : presentOf (s .setting .level .number) (4 * p .run .method) ≡ true → ((s .setting .sli ≡ false) ⊎ (p .sli .active ≡ true)) → r ≡ pushOf s p ws es
-      there e o = one-outcome (h .submit s p q ws es w n r m rd (rises-of (p .run)) (sym e) o) (pushes .submit s p q ws es w n _ push rd (rises-of (p .run)) (sym e) o)
-
-      go : (has on active : Bool) → presentOf (s .setting .level .number) (4 * p .run .method) ≡ has → s .setting .sli ≡ on → p .sli .active ≡ active → r ≡ pushOf s p ws es
-      go false on active e f g = one-outcome (h .non-cache s p q ws es w r m rd (sym e)) (pushes .non-cache s p q ws es w _ push rd (sym e))
-      go true false active e f g = there e (inl f)
-      go true true true e f g = there e (inr g)
-      go true true false e f g = one-outcome (h .discard s p q ws es w n r m rd (rises-of (p .run)) (sym e) f g) (pushes .discard s p q ws es w n _ push rd (rises-of (p .run)) (sym e) f g)
+      go :
+          (has on active : Bool)
+          → presentOf (s .setting .level .number) (4 * p .run .method) ≡ has
+          → s .setting .sli ≡ on
+          → p .sli .active ≡ active
+          → Moves s p ws es r
+      go false on active e f g = said (λ Q k y a. k .non-cache s p q ws es w y a rd (sym e))
+      go true false active e f g = said (λ Q k y a. k .submit s p q ws es w _ y a rd (rises-of (p .run)) (sym e) (inl f))
+      go true true true e f g = said (λ Q k y a. k .submit s p q ws es w _ y a rd (rises-of (p .run)) (sym e) (inr g))
+      go true true false e f g = said (λ Q k y a. k .discard s p q ws es w _ y a rd (rises-of (p .run)) (sym e) f g)
 
   -- a command, by what it reads as; a method is 4 times its number
   module _ (w : ℕ) (rd : WordRead s p ws w) (unawaited : p .run .awaited ≡ false) (none-left : p .run .count ≡ 0) where
     reading-of : (x : Reading) → x ≡ reading.readOf (s .setting) w 0 → CommandRead s p q ws x
     reading-of x e = record { word = w; read = rd; past = past-of s p; unawaited = unawaited; none-left = none-left; reads = e }
 
-    command : (x : Reading) → x ≡ reading.readOf (s .setting) w 0 → Within x → r ≡ pushOf s p ws es
+    -- a run, of either kind, by whether its count is 0
+    by-count : (c : ℕ) → (c ≡ 0 → Moves s p ws es r) → ((c ≡ 0 → ⊥) → Moves s p ws es r) → Moves s p ws es r
+    by-count c empty filled = go (eqb c 0) refl
+      where
+        go : (z : Bool) → eqb c 0 ≡ z → Moves s p ws es r
+        go true z = empty (eqb-true c 0 z)
+        go false z = filled (eqb-false c 0 z)
+
+    -- by whether a subroutine is active
+    by-active : (p .subroutine .active ≡ true → Moves s p ws es r) → (p .subroutine .active ≡ false → Moves s p ws es r) → Moves s p ws es r
+    by-active inside outside = go (p .subroutine .active) refl
+      where
+        go : (a : Bool) → p .subroutine .active ≡ a → Moves s p ws es r
+        go true a = inside a
+        go false a = outside a
+
+    command : (x : Reading) → x ≡ reading.readOf (s .setting) w 0 → Within x → Moves s p ws es r
     unfolding reading.number
-    command (Increasing c b n) e wi = go (eqb c 0) refl
-      where
-        go : (z : Bool) → eqb c 0 ≡ z → r ≡ pushOf s p ws es
-        go true z =
-            let x = inl (ap (λ (k : ℕ). Increasing k b n) (eqb-true c 0 z)) in
-            one-outcome (h .nothing s p q ws es _ b n r m (reading-of _ e) x) (pushes .nothing s p q ws es _ b n _ push (reading-of _ e) x)
-        go false z =
-            let four : 4 * (n / 4) ≡ n = omega (arith, wi .3) in
-            let f = reading-of _ (ap (λ (k : ℕ). Increasing c b k) four ∙ e) in
-            one-outcome (h .increasing s p q ws es c b (n / 4) r m f (eqb-false c 0 z)) (pushes .increasing s p q ws es c b (n / 4) _ push f (eqb-false c 0 z))
-    command (NonIncreasing c b n) e wi = go (eqb c 0) refl
-      where
-        go : (z : Bool) → eqb c 0 ≡ z → r ≡ pushOf s p ws es
-        go true z =
-            let x = inr (ap (λ (k : ℕ). NonIncreasing k b n) (eqb-true c 0 z)) in
-            one-outcome (h .nothing s p q ws es _ b n r m (reading-of _ e) x) (pushes .nothing s p q ws es _ b n _ push (reading-of _ e) x)
-        go false z =
-            let four : 4 * (n / 4) ≡ n = omega (arith, wi .3) in
-            let f = reading-of _ (ap (λ (k : ℕ). NonIncreasing c b k) four ∙ e) in
-            one-outcome (h .non-increasing s p q ws es c b (n / 4) r m f (eqb-false c 0 z)) (pushes .non-increasing s p q ws es c b (n / 4) _ push f (eqb-false c 0 z))
-    command (Sli k) e wi =
-        let b = not (eqb (bitAnd k (p .sli .mask)) 0) in
-        let f = flag-of k (p .sli .mask) in
-        one-outcome (h .sli s p q ws es k b r m (reading-of _ e) f) (pushes .sli s p q ws es k b _ push (reading-of _ e) f)
-    command Return e wi = go (p .subroutine .active) refl
-      where
-        go : (a : Bool) → p .subroutine .active ≡ a → r ≡ pushOf s p ws es
-        go true a = one-outcome (h .return s p q ws es r m (reading-of _ e) a) (pushes .return s p q ws es _ push (reading-of _ e) a)
-        go false a = one-outcome (h .return-outside s p q ws es r m (reading-of _ e) a) (pushes .return-outside s p q ws es _ push (reading-of _ e) a)
+    command (Increasing c b n) e wi =
+        let four : 4 * (n / 4) ≡ n = omega (arith, wi .3) in
+        by-count c (λ z. said (λ Q k y a. k .nothing s p q ws es _ b n y a (reading-of _ e) (inl (ap (λ (i : ℕ). Increasing i b n) z))))
+        (λ z. said (λ Q k y a. k .increasing s p q ws es c b (n / 4) y a (reading-of _ (ap (λ (i : ℕ). Increasing c b i) four ∙ e)) z))
+    command (NonIncreasing c b n) e wi =
+        let four : 4 * (n / 4) ≡ n = omega (arith, wi .3) in
+        by-count c (λ z. said (λ Q k y a. k .nothing s p q ws es _ b n y a (reading-of _ e) (inr (ap (λ (i : ℕ). NonIncreasing i b n) z))))
+        (λ z. said (λ Q k y a. k .non-increasing s p q ws es c b (n / 4) y a (reading-of _ (ap (λ (i : ℕ). NonIncreasing c b i) four ∙ e)) z))
+    command (Sli i) e wi = said (λ Q k y a. k .sli s p q ws es i _ y a (reading-of _ e) (flag-of i (p .sli .mask)))
+    command Return e wi =
+        by-active (λ on. said (λ Q k y a. k .return s p q ws es y a (reading-of _ e) on)) (λ off. said (λ Q k y a. k .return-outside s p q ws es y a (reading-of _ e) off))
     command (Long b n c) e wi =
         let four : 4 * (n / 4) ≡ n = omega (arith, wi .2) in
-        let f = reading-of _ (ap (λ (k : ℕ). Long b k c) four ∙ e) in
-        one-outcome (h .long s p q ws es b (n / 4) c r m f) (pushes .long s p q ws es b (n / 4) c _ push f)
-    command (OldJump t) e wi =
-        one-outcome (h .jump s p q ws es _ t r m (reading-of _ e) (inl refl)) (pushes .jump s p q ws es _ t _ push (reading-of _ e) (inl refl))
-    command (Jump t) e wi =
-        one-outcome (h .jump s p q ws es _ t r m (reading-of _ e) (inr refl)) (pushes .jump s p q ws es _ t _ push (reading-of _ e) (inr refl))
-    command (Call t) e wi = go (p .subroutine .active) refl
-      where
-        go : (a : Bool) → p .subroutine .active ≡ a → r ≡ pushOf s p ws es
-        go true a = one-outcome (h .call-inside s p q ws es t r m (reading-of _ e) a) (pushes .call-inside s p q ws es t _ push (reading-of _ e) a)
-        go false a = one-outcome (h .call s p q ws es t r m (reading-of _ e) a) (pushes .call s p q ws es t _ push (reading-of _ e) a)
-    command Reserved e wi =
-        one-outcome (h .reserved s p q ws es _ r m (reading-of _ e) (omega arith)) (pushes .reserved s p q ws es _ _ push (reading-of _ e) (omega arith))
-    command (Refused k) e wi =
-        one-outcome (h .reserved s p q ws es _ r m (reading-of _ e) (omega arith)) (pushes .reserved s p q ws es _ _ push (reading-of _ e) (omega arith))
+        said (λ Q k y a. k .long s p q ws es b (n / 4) c y a (reading-of _ (ap (λ (i : ℕ). Long b i c) four ∙ e)))
+    command (OldJump t) e wi = said (λ Q k y a. k .jump s p q ws es _ t y a (reading-of _ e) (inl refl))
+    command (Jump t) e wi = said (λ Q k y a. k .jump s p q ws es _ t y a (reading-of _ e) (inr refl))
+    command (Call t) e wi =
+        by-active (λ on. said (λ Q k y a. k .call-inside s p q ws es t y a (reading-of _ e) on)) (λ off. said (λ Q k y a. k .call s p q ws es t y a (reading-of _ e) off))
+    command Reserved e wi = said (λ Q k y a. k .reserved s p q ws es _ y a (reading-of _ e) (omega arith))
+    command (Refused n) e wi = said (λ Q k y a. k .reserved s p q ws es _ y a (reading-of _ e) (omega arith))
 
   -- a word, by whether a count is awaited and whether parameters are left
-  word : (w : ℕ) → WordRead s p ws w → r ≡ pushOf s p ws es
+  word : (w : ℕ) → WordRead s p ws w → Moves s p ws es r
   word w rd = go (p .run .awaited) (eqb (p .run .count) 0) refl refl
     where
-      go : (a z : Bool) → p .run .awaited ≡ a → eqb (p .run .count) 0 ≡ z → r ≡ pushOf s p ws es
-      go true z e f = one-outcome (h .count s p q ws es w r m rd (past-of s p) e) (pushes .count s p q ws es w _ push rd (past-of s p) e)
+      go : (a z : Bool) → p .run .awaited ≡ a → eqb (p .run .count) 0 ≡ z → Moves s p ws es r
+      go true z e f = said (λ Q k y a. k .count s p q ws es w y a rd (past-of s p) e)
       go false true e f = command w rd e (eqb-true _ _ f) _ refl (widths (s .setting) w 0 _ refl)
       go false false e f = parameter w (record { read = rd; past = past-of s p; unawaited = e; left = eqb-false _ _ f })
 
-  unread : Running p → (p .get ≡ p .put → ⊥) → r ≡ pushOf s p ws es
+  unread : Running p → (p .get ≡ p .put → ⊥) → Moves s p ws es r
   unread run n = go (ltb (s .limit) (p .get)) (leb (length ws) (p .get / 4)) refl refl
     where
-      faults-both : ((s .limit < p .get) ⊎ (length ws ≤ p .get / 4)) → r ≡ pushOf s p ws es
-      faults-both o = one-outcome (h .protection s p ws es r m run n o) (pushes .protection s p ws es _ push run n o)
-
-      go : (a b : Bool) → ltb (s .limit) (p .get) ≡ a → leb (length ws) (p .get / 4) ≡ b → r ≡ pushOf s p ws es
-      go true b e f = faults-both (inl (ltb-true _ _ e))
-      go false true e f = faults-both (inr (leb-true _ _ f))
+      go : (a b : Bool) → ltb (s .limit) (p .get) ≡ a → leb (length ws) (p .get / 4) ≡ b → Moves s p ws es r
+      go true b e f = said (λ Q k y a. k .protection s p ws es y a run n (inl (ltb-true _ _ e)))
+      go false true e f = said (λ Q k y a. k .protection s p ws es y a run n (inr (leb-true _ _ f)))
       go false false e f = word _ (record { running = run; unequal = n; limit = ltb-false _ _ e; lent = leb-false _ _ f; word = refl })
 
   -- an entry
-  entry : EntryNext s p → r ≡ pushOf s p ws es
+  entry : EntryNext s p → Moves s p ws es r
   entry nx = go (leb (length es) (p .ib .get)) refl
     where
       e : ℕ
@@ -271,31 +258,30 @@ module _ (R : Setup → Pusher → List ℕ → List ℕ → Pushed → Type 0) 
             rises-over = λ o. rw (choose-true (lt-ltb 12 (s .order) o) 12 (s .order));
           }
 
-      there : p .ib .get < length es → (a b : Bool) → eqb (sizeIn e) 0 ≡ a → eqb (e / 2 ^ 41 % 2) 1 ≡ b → r ≡ pushOf s p ws es
-      there l true b z f =
-          one-outcome (h .empty-entry s p ws es e i r m (rd l) (eqb-true _ _ z)) (pushes .empty-entry s p ws es e i _ push (rd l) (eqb-true _ _ z))
-      there l false true z f =
-          one-outcome (h .entry-not-main s p ws es e i r m (rd l) (eqb-false _ _ z) (eqb-true _ _ f))
-          (pushes .entry-not-main s p ws es e i _ push (rd l) (eqb-false _ _ z) (eqb-true _ _ f))
+      there : p .ib .get < length es → (a b : Bool) → eqb (sizeIn e) 0 ≡ a → eqb (e / 2 ^ 41 % 2) 1 ≡ b → Moves s p ws es r
+      there l true b z f = said (λ Q k y a. k .empty-entry s p ws es e i y a (rd l) (eqb-true _ _ z))
+      there l false true z f = said (λ Q k y a. k .entry-not-main s p ws es e i y a (rd l) (eqb-false _ _ z) (eqb-true _ _ f))
       there l false false z f =
           let n = eqb-false (e / 2 ^ 41 % 2) 1 f in
           let o : e / 2 ^ 41 % 2 ≡ 0 = omega arith in
-          one-outcome (h .entry-main s p ws es e i r m (rd l) (eqb-false _ _ z) o) (pushes .entry-main s p ws es e i _ push (rd l) (eqb-false _ _ z) o)
+          said (λ Q k y a. k .entry-main s p ws es e i y a (rd l) (eqb-false _ _ z) o)
 
-      go : (b : Bool) → leb (length es) (p .ib .get) ≡ b → r ≡ pushOf s p ws es
-      go true f = one-outcome (h .no-entry s p ws es r m nx (leb-true _ _ f)) (pushes .no-entry s p ws es _ push nx (leb-true _ _ f))
+      go : (b : Bool) → leb (length es) (p .ib .get) ≡ b → Moves s p ws es r
+      go true f = said (λ Q k y a. k .no-entry s p ws es y a nx (leb-true _ _ f))
       go false f = there (leb-false _ _ f) _ _ refl refl
 
-  moved : (a b c d : Bool) → eqb (number (p .error)) 0 ≡ a → eqb (p .get) (p .put) ≡ b → eqb (s .setting .mode .number) 1 ≡ c → eqb (p .ib .get) (p .ib .put) ≡ d → r ≡ pushOf s p ws es
-  moved false b c d e f g k = one-outcome (h .stopped s p ws es r m (eqb-false _ _ e)) (pushes .stopped s p ws es _ push (eqb-false _ _ e))
-  moved true false c d e f g k = unread (eqb-true _ _ e) (eqb-false _ _ f)
-  moved true true false d e f g k =
-      let o = inl (eqb-false (s .setting .mode .number) 1 g) in
-      one-outcome (h .idle s p ws es r m (eqb-true _ _ e) (eqb-true _ _ f) o) (pushes .idle s p ws es _ push (eqb-true _ _ e) (eqb-true _ _ f) o)
-  moved true true true true e f g k =
-      let o = inr (eqb-true (p .ib .get) (p .ib .put) k) in
-      one-outcome (h .idle s p ws es r m (eqb-true _ _ e) (eqb-true _ _ f) o) (pushes .idle s p ws es _ push (eqb-true _ _ e) (eqb-true _ _ f) o)
-  moved true true true false e f g k = entry (record { running = eqb-true _ _ e; equal = eqb-true _ _ f; ib = eqb-true _ _ g; unequal = eqb-false _ _ k })
+  moved :
+      (a b c d : Bool)
+      → eqb (number (p .error)) 0 ≡ a
+      → eqb (p .get) (p .put) ≡ b
+      → eqb (s .setting .mode .number) 1 ≡ c
+      → eqb (p .ib .get) (p .ib .put) ≡ d
+      → Moves s p ws es r
+  moved false b c d e f g i = said (λ Q k y a. k .stopped s p ws es y a (eqb-false _ _ e))
+  moved true false c d e f g i = unread (eqb-true _ _ e) (eqb-false _ _ f)
+  moved true true false d e f g i = said (λ Q k y a. k .idle s p ws es y a (eqb-true _ _ e) (eqb-true _ _ f) (inl (eqb-false (s .setting .mode .number) 1 g)))
+  moved true true true true e f g i = said (λ Q k y a. k .idle s p ws es y a (eqb-true _ _ e) (eqb-true _ _ f) (inr (eqb-true (p .ib .get) (p .ib .put) i)))
+  moved true true true false e f g i = entry (record { running = eqb-true _ _ e; equal = eqb-true _ _ f; ib = eqb-true _ _ g; unequal = eqb-false _ _ i })
 
 pub no-other : NoOther
 no-other R h s p ws es r m = moved R h s p ws es r m _ _ _ _ refl refl refl refl

@@ -1,0 +1,25 @@
+use Prim.Native.Nat.{_-_}
+use mathlib.Core.Path.{_≡_}
+use lib.ListN.{length}
+use borrow.Author.Needs.{needs}
+use Rattle.channel_vectors.proofs.model.next_deltas.Statement.{statement}
+use Rattle.channel_vectors.proofs.model.next_deltas.Tie as tie
+
+abbrev Inv-loop : tie.InvT-loop
+Inv-loop count model₀ counter₀ model counter = Unit {0}
+
+abbrev μ-loop : tie.MeasureT-loop
+μ-loop count model₀ counter₀ model counter = count - counter
+
+pub next-deltas-spec : {M : Type 1} → statement M
+next-deltas-spec =
+    tie.close
+    (tie.spec
+    Inv-loop
+    μ-loop
+    (λ c. search needs)
+    (λ c κs. search needs)
+    (λ c. search needs)
+    (λ c. search needs)
+    (λ c. search needs)
+    (λ c. search needs))

@@ -1,0 +1,15 @@
+use mathlib.Core.Path.{sym}
+use native.Mathlib.Omega.{arith}
+use lib.Seq.{length-take-le}
+use borrow.Author.Needs.{needs}
+use Rattle.channel_vectors.proofs.opening.open_in.Statement.{statement}
+use Rattle.channel_vectors.proofs.opening.open_in.Tie as tie
+
+pub open-in-spec : {M : Type 1} → statement M
+open-in-spec =
+    tie.close
+    (tie.spec
+    (λ c κs. search needs)
+    (λ c. sym (length-take-le _ _ (omega arith)))
+    (λ c κs. search needs)
+    (λ c. search needs))

@@ -1,0 +1,113 @@
+// Records of one operation on a channel that is given, be it well-formed or not.
+use crate::difference::Difference;
+use crate::difference::far;
+use crate::difference::first;
+use crate::difference::same;
+use crate::difference::unknown;
+use crate::input::next_word;
+use crate::model::Model;
+use crate::model::memory_held;
+use crate::model::modelled;
+use crate::operation::PUT;
+use crate::operation::STEP;
+use crate::operation::set;
+use crate::operation::step;
+use crate::pool::Lent;
+use crate::pool::MOST_GIVEN;
+use crate::pool::load_pools;
+use crate::pool::within;
+use crate::state::channel_of;
+use crate::state::next_channel;
+
+pub(crate) fn put() -> Difference {
+    let given = next_channel();
+    let put = next_word();
+    let header = next_word();
+    let done = set(channel_of(given), modelled(given, &[0]), put, header);
+    let difference = done.difference;
+    first(of(header, PUT), difference)
+}
+
+// Whether a header is of the operation that its record is.
+fn of(header: u32, operation: u32) -> Difference {
+    let number = header % 0x100;
+    if number == operation {
+        return same();
+    }
+    unknown(number)
+}
+
+// One step. The stack has room for one pool of the most words and one more, and not for two. So the
+// longer of the two that are lent is in the large one, and of the other the small one lends what it
+// has: all, but where both are longer than that. (No answer of such a record depends on the rest.)
+pub(crate) fn single(
+    small: &mut [u32],
+    large: &mut [u32],
+    entries: &mut [u64],
+    table: &mut [u32],
+) -> Difference {
+    let given = next_channel();
+    let lent = Lent {
+        words: next_word() as usize,
+        entries: next_word() as usize,
+        table: next_word() as usize,
+        semaphores: next_word() as usize,
+    };
+    if lent.semaphores < lent.words {
+        return single_in(given, lent, large, entries, table, small);
+    }
+    single_in(given, lent, small, entries, table, large)
+}
+
+fn single_in(
+    given: [u32; 41],
+    lent: Lent,
+    words: &mut [u32],
+    entries: &mut [u64],
+    table: &mut [u32],
+    semaphores: &mut [u32],
+) -> Difference {
+    load_pools(words, entries, table, semaphores);
+    single_step(given, lent, words, entries, table, semaphores)
+}
+
+fn single_step(
+    given: [u32; 41],
+    lent: Lent,
+    words: &[u32],
+    entries: &[u64],
+    table: &[u32],
+    semaphores: &mut [u32],
+) -> Difference {
+    let model = modelled(given, semaphores);
+    let channel = channel_of(given);
+    let header = next_word();
+    let done = step(
+        channel,
+        model,
+        header,
+        lent,
+        words,
+        entries,
+        table,
+        semaphores,
+    );
+    let memory = all_held(done.model, semaphores, lent.semaphores);
+    first(of(header, STEP), first(done.difference, memory))
+}
+
+// Holds all semaphore words that were lent to the model's: past the first, those are 0.
+fn all_held(model: Model, semaphores: &mut [u32], lent: usize) -> Difference {
+    let near = memory_held(model, semaphores);
+    first(near, swept(semaphores, lent))
+}
+
+fn swept(semaphores: &mut [u32], lent: usize) -> Difference {
+    let mut found = same();
+    let end = within(lent, semaphores.len());
+    for i in MOST_GIVEN..end {
+        let here = far(semaphores, i, 0);
+        found = first(found, here);
+    }
+    found
+}

@@ -1,0 +1,133 @@
+/* A model of the command channel, written from the paper alone: opening it, setting put, and one step. */
+#ifndef MODEL_CHANNEL_H
+#define MODEL_CHANNEL_H
+
+#include "word.h"
+
+/* The refusal numbers that only a channel can give. */
+enum { REFUSAL_ORDER = 3, REFUSAL_TABLE = 5, REFUSAL_DUPLICATE = 6, REFUSAL_PUT = 7, REFUSAL_STATE = 13 };
+
+/* "Pusher errors: 1 CALL, 2 NON_CACHE, 3 RETURN, 4 RESERVED_CMD, 5 IB, 6 PROTECTION." 0 stands for none. */
+enum {
+    PUSHER_CALL = 1,
+    PUSHER_NON_CACHE = 2,
+    PUSHER_RETURN = 3,
+    PUSHER_RESERVED_CMD = 4,
+    PUSHER_IB = 5,
+    PUSHER_PROTECTION = 6
+};
+
+/* The puller's errors, to which the paper gives names alone. 0 stands for none. */
+enum {
+    PULLER_NO_HASH = 1,
+    PULLER_EMPTY_SUBCHANNEL = 2,
+    PULLER_SEMAPHORE_1 = 3,
+    PULLER_SEMAPHORE_2 = 4,
+    PULLER_SEMAPHORE_3 = 5,
+    PULLER_SEMAPHORE_4 = 6
+};
+
+/* What a step did. */
+enum {
+    KIND_COMMAND = 1,
+    KIND_COUNT = 2,
+    KIND_BIND = 3,
+    KIND_REF = 4,
+    KIND_EVENT = 5,
+    KIND_DMA = 6,
+    KIND_OFFSET = 7,
+    KIND_ACQUIRE = 8,
+    KIND_RELEASE = 9,
+    KIND_WAIT = 10,
+    KIND_FORWARD = 11,
+    KIND_ERROR = 12,
+    KIND_ENTRY = 13,
+    KIND_DISCARD = 14,
+    KIND_IDLE = 15,
+    KIND_STOPPED = 16
+};
+
+/* "object table [...] over 4,096 words", four words an entry; "ib_order above 12"; eight subchannels. */
+enum { TABLE_LIMIT = 4096, ENTRY_WORDS = 4, ORDER_LIMIT = 12, SUBCHANNELS = 8 };
+
+/* What is settled at opening. */
+struct setup {
+    struct setting setting;
+    uint32_t ib_order;
+    uint32_t dma_limit;
+    uint32_t sli_mask;
+};
+
+struct channel {
+    struct setup setup;
+
+    /* The pusher: the read address and put, and the command under way. The method is a number, a fourth of
+     * its byte number. */
+    uint64_t get;
+    uint64_t put;
+    uint32_t count;
+    uint32_t method;
+    uint32_t subchannel;
+    bool increasing;
+    bool count_awaited;
+    bool subroutine;
+    uint32_t return_address;
+    uint32_t ib_get;
+    uint32_t ib_put;
+    bool not_main;
+    uint64_t dma_mget;
+    bool dma_mget_valid;
+    bool sli_active;
+    uint32_t pusher_error;
+
+    /* The puller. A semaphore object at address 0 "counts as unbound". */
+    uint32_t engines[SUBCHANNELS];
+    uint32_t last_engine;
+    uint32_t ref;
+    uint32_t dma_semaphore;
+    uint32_t semaphore_offset;
+    bool offset_valid;
+    bool acquire_active;
+    uint32_t acquire_value;
+    uint32_t puller_error;
+};
+
+/* The memory lent to one step; only semaphore words are written. */
+struct lent {
+    const uint32_t *words;
+    size_t word_count;
+    const uint64_t *entries;
+    size_t entry_count;
+    const uint32_t *table;
+    size_t table_count;
+    uint32_t *semaphores;
+    size_t semaphore_count;
+};
+
+/* The answer of opening: a refusal, and for DUPLICATE "the lowest entry that repeats an earlier one". */
+struct opened {
+    uint32_t refusal;
+    uint32_t entry;
+};
+
+/* The answer of a step: a refusal, or a kind. "only methods taken or discarded have further fields"; the
+ * method is a byte number, the parameter "as handed on, after any lookup". */
+struct answer {
+    uint32_t refusal;
+    uint32_t kind;
+    bool fields;
+    uint32_t subchannel;
+    uint32_t method;
+    uint32_t parameter;
+};
+
+/* Opens a channel over an object table of `count` words; where refused, it becomes the blank one. */
+struct opened model_open(struct channel *channel, struct setup setup, const uint32_t *table, size_t count);
+
+/* Sets put, in IB mode ib_put. The answer is a refusal, which leaves the channel as it was. */
+uint32_t model_set_put(struct channel *channel, uint32_t put);
+
+/* One step; a refusal leaves channel and semaphore words as they were. */
+struct answer model_step(struct channel *channel, const struct lent *lent);
+
+#endif

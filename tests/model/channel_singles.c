@@ -1,0 +1,808 @@
+/* The SINGLE records: one step of any channel, well-formed or not, by what the step has to do. */
+#include "channel_vectors.h"
+#include "pattern.h"
+
+/* A question: a channel, the words that the record gives of each pool, and how much is lent. */
+struct single {
+    struct channel channel;
+    struct memory memory;
+    struct lens lens;
+};
+
+static uint32_t table_pool[TABLE_POOL];
+static uint32_t word_pool[POOL];
+static uint32_t semaphore_pool[POOL];
+
+/* Fills the pools. Words that the record doesn't give are 0, those of the table 0x80000000 plus their place,
+ * as in every record. */
+static void fill_pools(const struct memory *memory)
+{
+    for (uint32_t i = 0; i < TABLE_POOL; i++)
+        table_pool[i] = i < memory->table_count ? memory->table[i] : 0x80000000 + i;
+    for (uint32_t i = 0; i < GIVEN; i++) {
+        word_pool[i] = i < memory->word_count ? memory->words[i] : 0;
+        semaphore_pool[i] = i < memory->semaphore_count ? memory->semaphores[i] : 0;
+    }
+}
+
+/* The answer is the step's refusal. */
+static uint32_t put_single(struct vectors *vectors, const struct single *single)
+{
+    static struct buffer buffer;
+    const struct lens *lens = &single->lens;
+    uint32_t lents[] = {lens->words, lens->entries, lens->table, lens->semaphores};
+    struct lent lent = {word_pool,  lens->words, single->memory.entries, lens->entries,
+                        table_pool, lens->table, semaphore_pool,         lens->semaphores};
+    struct channel channel = single->channel;
+    uint32_t place = channel.semaphore_offset / 4;
+    struct answer answer;
+    size_t header;
+
+    fill_pools(&single->memory);
+    buffer.count = 0;
+    add_channel(&buffer, &channel);
+    add_words(&buffer, lents, sizeof lents / sizeof lents[0]);
+    add_counted(&buffer, single->memory.table, single->memory.table_count);
+    add_memory(&buffer, &single->memory);
+    header = buffer.count++;
+    answer = add_step(vectors, &buffer, header, &channel, &lent);
+    put_record(vectors, SINGLE, buffer.words, buffer.count, answer.kind);
+    if (answer.refusal != REFUSAL_NONE)
+        count_one(vectors, SINGLE_REFUSED, answer.refusal);
+    /* Behind the words that records give, a released word would stay. */
+    if (place < POOL)
+        semaphore_pool[place] = 0;
+    return answer.refusal;
+}
+
+/* ---- Settings ---- */
+
+/* Settings that aren't refused, those with SLI enabled twice: active and not. */
+struct state {
+    struct setting setting;
+    bool is_active;
+};
+
+enum { STATES = 18 };
+
+static struct state state_at(unsigned i)
+{
+    static const struct state states[STATES] = {
+        {{0, MODE_NV04, false}, true}, {{1, MODE_NV04, false}, true}, {{2, MODE_NV04, false}, false},
+        {{3, MODE_NV04, false}, true}, {{3, MODE_NV04, true}, true},  {{3, MODE_NV04, true}, false},
+        {{4, MODE_NV04, false}, true}, {{4, MODE_NV04, true}, true},  {{4, MODE_NV04, true}, false},
+        {{4, MODE_IB, false}, false},  {{4, MODE_IB, true}, true},    {{4, MODE_IB, true}, false},
+        {{5, MODE_NV04, false}, true}, {{5, MODE_NV04, true}, true},  {{5, MODE_NV04, true}, false},
+        {{5, MODE_IB, false}, true},   {{5, MODE_IB, true}, true},    {{5, MODE_IB, true}, false},
+    };
+
+    return states[i];
+}
+
+/* A setting of a level that isn't refused. */
+static struct setting draw_setting_at(struct draw *draw, uint32_t level)
+{
+    struct setting setting = draw_setting(draw);
+
+    while (setting.level != level)
+        setting = draw_setting(draw);
+    return setting;
+}
+
+/* ---- A channel that reads a word ---- */
+
+static void set_word(struct single *single, uint32_t word)
+{
+    single->memory.words[single->memory.word_count - 1] = word;
+}
+
+/* A channel that is about to read the last of the words given, which may read it by limit and lending, and
+ * takes methods. What the word is to be is left open. */
+static struct single draw_reading(struct draw *draw, struct setting setting)
+{
+    struct single single = {.channel = draw_channel(draw, setting)};
+    struct channel *channel = &single.channel;
+
+    single.memory.word_count = 1 + draw_below(draw, 2);
+    single.lens.words = single.memory.word_count + draw_below(draw, 2);
+    channel->get = 4 * (single.memory.word_count - 1);
+    if (channel->put == channel->get)
+        channel->put += 4;
+    channel->setup.dma_limit = draw_once_in(draw, 2) ? (uint32_t)channel->get : UINT32_MAX;
+    channel->sli_active = true;
+    return single;
+}
+
+/* The word is a parameter of a method, given by its byte number. */
+static struct single draw_parameter(struct draw *draw, struct setting setting, uint32_t method,
+                                    uint32_t parameter)
+{
+    struct single single = draw_reading(draw, setting);
+
+    single.channel.count_awaited = false;
+    if (single.channel.count == 0)
+        single.channel.count = 1;
+    single.channel.method = method / 4;
+    set_word(&single, parameter);
+    return single;
+}
+
+/* The word is a command. */
+static struct single draw_command(struct draw *draw, struct setting setting, uint32_t word)
+{
+    struct single single = draw_reading(draw, setting);
+
+    single.channel.count_awaited = false;
+    single.channel.count = 0;
+    set_word(&single, word);
+    return single;
+}
+
+/* ---- Objects and semaphores ---- */
+
+enum { OBJECTS = 2, FIRST_HANDLE = 5 };
+
+static void give_object(struct single *single, uint32_t handle, uint32_t engine, uint32_t address,
+                        uint32_t class)
+{
+    uint32_t *entry = single->memory.table + single->memory.table_count;
+
+    entry[0] = handle;
+    entry[1] = engine;
+    entry[2] = address;
+    entry[3] = class;
+    single->memory.table_count += ENTRY_WORDS;
+    single->lens.table = single->memory.table_count;
+}
+
+/* Objects with the handles FIRST_HANDLE and up; class word and engine are good ones as often as not. */
+static void give_objects(struct draw *draw, struct single *single)
+{
+    for (uint32_t i = 0; i < OBJECTS; i++) {
+        uint32_t engine = draw_any_number(draw);
+        uint32_t address = draw_any_number(draw);
+        uint32_t class = draw_once_in(draw, 2) ? 0x30002 : draw_number(draw);
+
+        give_object(single, FIRST_HANDLE + i, engine, address, class);
+    }
+}
+
+/* In three of four cases a handle that there is. */
+static uint32_t draw_handle(struct draw *draw)
+{
+    uint32_t object = draw_below(draw, OBJECTS);
+
+    return FIRST_HANDLE + (draw_once_in(draw, 4) ? OBJECTS : object);
+}
+
+/* Semaphore words 0 and 1 of values 0 to 2, the offset at one of them, or right past them. */
+static void give_semaphores(struct draw *draw, struct single *single)
+{
+    struct memory *memory = &single->memory;
+
+    memory->semaphore_count = 2;
+    single->lens.semaphores = 1 + draw_below(draw, 2);
+    for (uint32_t i = 0; i < memory->semaphore_count; i++)
+        memory->semaphores[i] = draw_below(draw, 3);
+    single->channel.semaphore_offset = draw_below(draw, 4 * single->lens.semaphores + 1);
+}
+
+static uint32_t draw_offset(struct draw *draw)
+{
+    static const uint32_t offsets[] = {0, 4, 0xffc, 0x1000, 0xfffc, 0x10000, 1, 2, 0xfffe};
+
+    return draw_among(draw, offsets, sizeof offsets / sizeof offsets[0]);
+}
+
+/* A parameter that a method may do something with. */
+static uint32_t draw_parameter_of(struct draw *draw, uint32_t method)
+{
+    if (method == 0x00 || method == 0x60 || (method >= 0x180 && method <= 0x1fc))
+        return draw_handle(draw);
+    if (method == 0x64)
+        return draw_offset(draw);
+    if (method == 0x68 || method == 0x6c)
+        return draw_below(draw, 3);
+    return draw_any_number(draw);
+}
+
+/* A parameter of a method, with the memory that it may need. */
+static struct single draw_method(struct draw *draw, struct setting setting, uint32_t method)
+{
+    uint32_t parameter = draw_parameter_of(draw, method);
+    struct single single = draw_parameter(draw, setting, method, parameter);
+
+    if (method == 0x68 || method == 0x6c)
+        give_semaphores(draw, &single);
+    else if (method == 0x00 || method == 0x60 || method >= 0x100)
+        give_objects(draw, &single);
+    return single;
+}
+
+/* Every method to 0x100 at every setting, SLI active or not. Levels of many settings try what they lack at
+ * one setting in three. */
+static void put_methods(struct vectors *vectors)
+{
+    for (uint32_t i = 0; i < STATES; i++)
+        for (uint32_t method = 0; method <= 0x100; method += 4) {
+            struct state state = state_at(i);
+            struct single single = draw_method(&vectors->draw, state.setting, method);
+
+            single.channel.sli_active = state.is_active;
+            if (model_present(state.setting.level, method) || i < 3 || (i + method / 4) % 3 == 0)
+                put_single(vectors, &single);
+        }
+}
+
+/* The special methods and those for the engine once more, at any level that has them or not. */
+static void put_more_methods(struct vectors *vectors)
+{
+    static const uint32_t methods[] = {0x00, 0x10,  0x24,  0x50,  0x60,  0x64,  0x68,  0x6c,
+                                       0x80, 0x100, 0x17c, 0x180, 0x1fc, 0x200, 0x1ffc};
+
+    for (unsigned i = 0; i < 40; i++)
+        for (unsigned j = 0; j < sizeof methods / sizeof methods[0]; j++) {
+            struct single single = draw_method(&vectors->draw, draw_setting(&vectors->draw), methods[j]);
+
+            put_single(vectors, &single);
+        }
+}
+
+/* ---- The puller, case by case ---- */
+
+/* "engine (bits 4-0)": numbers with those bits 0, and with others above them. */
+static void put_engines(struct vectors *vectors)
+{
+    static const uint32_t engines[] = {0, 1, 31, 32, 33, 0x80000000, UINT32_MAX, 0xffffffe0};
+
+    for (uint32_t i = 0; i < 6 * sizeof engines / sizeof engines[0]; i++) {
+        struct setting setting = draw_setting_at(&vectors->draw, i % 6);
+        struct single single = draw_parameter(&vectors->draw, setting, 0x00, 7);
+
+        give_object(&single, 7, engines[i / 6], draw_any_number(&vectors->draw), 0);
+        put_single(vectors, &single);
+    }
+}
+
+/* Methods around 0x180 to 0x1fc, with a handle that there is or isn't, on a subchannel bound or not. */
+static void put_forwards(struct vectors *vectors)
+{
+    static const uint32_t methods[] = {0x100, 0x17c, 0x180, 0x1bc, 0x1fc, 0x200, 0x280, 0x1ffc};
+
+    for (uint32_t i = 0; i < 6 * 4 * sizeof methods / sizeof methods[0]; i++) {
+        struct setting setting = draw_setting_at(&vectors->draw, i % 6);
+        struct single single = draw_parameter(&vectors->draw, setting, methods[i / 24], 7);
+
+        give_object(&single, i / 6 % 2 == 0 ? 7 : 8, 0, draw_any_number(&vectors->draw), 0);
+        single.channel.engines[single.channel.subchannel] =
+            i / 12 % 2 == 0 ? 0 : 1 + draw_below(&vectors->draw, 31);
+        put_single(vectors, &single);
+    }
+}
+
+/* "Lookup takes the lowest matching entry", whatever the other words of the entries are. */
+static void put_lookups(struct vectors *vectors)
+{
+    static const uint32_t methods[] = {0x00, 0x60, 0x180};
+
+    for (uint32_t i = 0; i < 3 * 24; i++) {
+        struct draw *draw = &vectors->draw;
+        struct setting setting = draw_setting_at(draw, 2 + draw_below(draw, 4));
+        struct single single = draw_parameter(draw, setting, methods[i % 3], draw_below(draw, 3));
+
+        for (unsigned j = 0; j < 4; j++) {
+            uint32_t handle = draw_below(draw, 3);
+            uint32_t engine = draw_below(draw, 3);
+
+            give_object(&single, handle, engine, draw_below(draw, 3), 0x30002);
+        }
+        single.lens.table = ENTRY_WORDS * draw_below(draw, 5);
+        put_single(vectors, &single);
+    }
+}
+
+/* Entries of the table that the record doesn't give: the last that is lent, and the one after it. */
+static void put_far_lookups(struct vectors *vectors)
+{
+    static const uint32_t methods[] = {0x00, 0x60, 0x180};
+    static const uint32_t entries[] = {0, 1, 15, 16, 255, 256, 1022, 1023, 1024};
+
+    for (uint32_t i = 0; i < 3 * 2 * sizeof entries / sizeof entries[0]; i++) {
+        uint32_t entry = entries[i / 6];
+        uint32_t lent = ENTRY_WORDS * (entry + i / 3 % 2);
+        struct setting setting = draw_setting_at(&vectors->draw, 5);
+        struct single single =
+            draw_parameter(&vectors->draw, setting, methods[i % 3], 0x80000000 + ENTRY_WORDS * entry);
+
+        single.lens.table = lent < TABLE_LIMIT ? lent : TABLE_LIMIT;
+        put_single(vectors, &single);
+    }
+}
+
+/* 0x60 with every class, write-only and page table bit, right and wrong, and bits that aren't named. */
+static void put_classes(struct vectors *vectors)
+{
+    static const uint32_t classes[] = {0x30002, 0x20002, 0x10002, 0x00002, 0x30000, 0x30003,
+                                       0x30006, 0x38002, 0x3003d, 0x30102, 0,       UINT32_MAX};
+
+    for (uint32_t i = 0; i < 4 * 2 * sizeof classes / sizeof classes[0]; i++) {
+        uint32_t unnamed = i / 4 % 2 == 0 ? 0 : draw_number(&vectors->draw) << 18;
+        struct setting setting = draw_setting_at(&vectors->draw, 2 + i % 4);
+        struct single single = draw_parameter(&vectors->draw, setting, 0x60, 9);
+
+        give_object(&single, 9, 0, draw_any_number(&vectors->draw), classes[i / 8] | unnamed);
+        put_single(vectors, &single);
+    }
+}
+
+/* 0x64 with each bit of the offset at issue. */
+static void put_offsets(struct vectors *vectors)
+{
+    for (uint32_t i = 0; i < 4 * 33; i++) {
+        struct setting setting = draw_setting_at(&vectors->draw, 2 + i % 4);
+        uint32_t offset = i / 4 == 32 ? 0 : UINT32_C(1) << i / 4;
+        struct single single;
+
+        if (draw_once_in(&vectors->draw, 3))
+            offset |= draw_number(&vectors->draw) & 0xfff;
+        single = draw_parameter(&vectors->draw, setting, 0x64, offset);
+        put_single(vectors, &single);
+    }
+}
+
+/* Acquire and release: set up or not, the word the first, the last, the one past the end or far behind it;
+ * the offset "rounded down"; the value found or not. */
+static void put_semaphores(struct vectors *vectors)
+{
+    for (uint32_t i = 0; i < 4 * 2 * 2 * 2 * 8; i++) {
+        struct draw *draw = &vectors->draw;
+        uint32_t level = 2 + i % 4;
+        bool is_set = i / 4 % 2 == 0;
+        uint32_t method = i / 8 % 2 == 0 ? 0x68 : 0x6c;
+        uint32_t offsets[] = {0, 3, 4, 7, 8, 11, 0x10000, UINT32_MAX};
+        struct single single = draw_parameter(draw, draw_setting_at(draw, level), method, i / 16 % 2);
+
+        give_semaphores(draw, &single);
+        single.lens.semaphores = 2;
+        single.channel.semaphore_offset = offsets[i / 32];
+        /* The other level's condition is the other way about, so that it is seen not to count. */
+        single.channel.dma_semaphore = is_set == (level < 4) ? 1 + draw_below(draw, 9) : 0;
+        single.channel.offset_valid = is_set == (level >= 4);
+        put_single(vectors, &single);
+    }
+}
+
+/* A release far behind the words that the record gives. */
+static void put_far_releases(struct vectors *vectors)
+{
+    static const uint32_t places[] = {64, 1023, 1024, 16383};
+
+    for (uint32_t i = 0; i < 4 * 3; i++) {
+        struct setting setting = draw_setting_at(&vectors->draw, 2 + i % 4);
+        struct single single = draw_parameter(&vectors->draw, setting, 0x6c, 0xfeedf00d);
+
+        single.channel.semaphore_offset = 4 * places[i % 4] + i / 4;
+        single.channel.dma_semaphore = 1;
+        single.channel.offset_valid = true;
+        single.lens.semaphores = places[i % 4] + 1 - i / 8;
+        put_single(vectors, &single);
+    }
+}
+
+/* ---- The pusher, case by case ---- */
+
+/* Each form at each setting, in a subroutine or not; each third word is one bit off. */
+static void put_commands(struct vectors *vectors)
+{
+    struct draw *draw = &vectors->draw;
+
+    for (uint32_t i = 0; i < STATES * PATTERNS * 2 * 2; i++) {
+        struct state state = state_at(i % STATES);
+        uint32_t word = draw_form(draw, patterns[i / STATES % PATTERNS]);
+        struct single single = draw_command(draw, state.setting, word);
+
+        if (draw_once_in(draw, 3))
+            set_word(&single, word ^ UINT32_C(1) << draw_below(draw, 32));
+        single.channel.subroutine = i / STATES / PATTERNS % 2 == 1;
+        single.channel.sli_active = state.is_active;
+        put_single(vectors, &single);
+    }
+}
+
+/* Words that may be anything; every other command has count 0. */
+static void put_any_commands(struct vectors *vectors)
+{
+    for (uint32_t i = 0; i < 160; i++) {
+        struct setting setting = draw_setting(&vectors->draw);
+        uint32_t word = draw_word(&vectors->draw);
+        struct single single = draw_command(&vectors->draw, setting, i % 2 == 0 ? word : word & 0x4000fffc);
+
+        put_single(vectors, &single);
+    }
+}
+
+/* "An SLI conditional sets sli_active exactly if its mask and the channel's share a set bit": each bit of
+ * the channel's mask, against itself, its neighbour and all others. */
+static void put_conditionals(struct vectors *vectors)
+{
+    for (uint32_t i = 0; i < 12 * 3; i++) {
+        struct setting setting = {3 + draw_below(&vectors->draw, 3), MODE_NV04, true};
+        uint32_t bit = UINT32_C(1) << i / 3;
+        uint32_t masks[] = {bit, bit << 1 & 0xfff, ~bit & 0xfff};
+        struct single single = draw_command(&vectors->draw, setting, 0x00010000 | masks[i % 3] << 4);
+
+        single.channel.setup.sli_mask = bit;
+        single.channel.sli_active = i / 3 % 2 == 0;
+        put_single(vectors, &single);
+    }
+}
+
+/* "The word is the count if a long form waits for one", in NV04-style too, whatever the count was. */
+static void put_count_words(struct vectors *vectors)
+{
+    static const uint32_t words[] = {0, 1, 0x00ffffff, 0x01000000, 0xff000000, 0xff000001, UINT32_MAX};
+
+    for (uint32_t i = 0; i < STATES * sizeof words / sizeof words[0]; i++) {
+        struct state state = state_at(i % STATES);
+        struct single single = draw_reading(&vectors->draw, state.setting);
+
+        single.channel.count_awaited = true;
+        single.channel.sli_active = state.is_active;
+        set_word(&single, words[i / STATES]);
+        put_single(vectors, &single);
+    }
+}
+
+/* The last parameter, the longest run, the largest method, increasing or not. */
+static void put_run_ends(struct vectors *vectors)
+{
+    static const uint32_t counts[] = {1, 2, 0xffffff};
+    static const uint32_t methods[] = {0x100, 0x1ff8, 0x1ffc};
+
+    for (uint32_t i = 0; i < STATES * 3 * 2; i++) {
+        struct state state = state_at(i % STATES);
+        struct single single = draw_method(&vectors->draw, state.setting, methods[i / STATES % 3]);
+
+        single.channel.count = counts[draw_below(&vectors->draw, 3)];
+        single.channel.increasing = i / STATES / 3 == 0;
+        single.channel.sli_active = state.is_active;
+        put_single(vectors, &single);
+    }
+}
+
+/* A read address and a limit around each other, in either mode; half of the time the word is also the last
+ * lent or the one after it. */
+static void put_limits(struct vectors *vectors)
+{
+    static const uint32_t differences[] = {0, 1, 3, 4, UINT32_MAX, UINT32_MAX - 3};
+
+    for (uint32_t i = 0; i < STATES * 12; i++) {
+        uint32_t place = draw_below(&vectors->draw, 5);
+        struct state state = state_at(i % STATES);
+        struct single single = draw_reading(&vectors->draw, state.setting);
+
+        single.channel.get = 4 * place;
+        single.channel.put = 4 * (place + 1 + draw_below(&vectors->draw, 9));
+        single.lens.words = i / STATES < 6 ? place + 1 : place + draw_below(&vectors->draw, 3);
+        single.channel.setup.dma_limit = 4 * place + differences[i / STATES % 6];
+        put_single(vectors, &single);
+    }
+}
+
+/* Addresses that only 40 bits hold: above any limit, and never an index cut to 32 bits. */
+static void put_far_words(struct vectors *vectors)
+{
+    static const uint64_t addresses[] = {0xfffffffc,
+                                         UINT64_C(0x100000000),
+                                         UINT64_C(0x100000004),
+                                         UINT64_C(0xff00000000),
+                                         UINT64_C(0xfffffffffc),
+                                         0x80000000};
+
+    for (uint32_t i = 0; i < 6 * 6; i++) {
+        struct state state = state_at(i % 2 == 0 ? 9 : 15);
+        struct single single = draw_reading(&vectors->draw, state.setting);
+
+        single.channel.get = addresses[i / 6];
+        single.channel.put = i / 2 % 2 == 0 ? 0 : (addresses[i / 6] + 4) & UINT64_C(0xffffffffff);
+        single.channel.setup.dma_limit = UINT32_MAX;
+        put_single(vectors, &single);
+    }
+}
+
+/* ---- Entries ---- */
+
+/* An entry whose address and size are at their ends as often as not. */
+static uint64_t draw_entry(struct draw *draw)
+{
+    uint64_t address = draw_any_number(draw);
+    uint64_t high = draw_any_number(draw) >> 24;
+    uint64_t size = draw_once_in(draw, 5) ? 0 : draw_any_number(draw) >> 10;
+    uint64_t flags = draw_below(draw, 4);
+
+    return size << 42 | flags << 40 | high << 32 | address;
+}
+
+/* A channel that is about to read an entry, given and lent; the index is at times the ring's last. */
+static struct single draw_entry_single(struct draw *draw, uint32_t order)
+{
+    struct setting setting = draw_setting_at(draw, 4 + draw_below(draw, 2));
+    struct single single;
+    struct channel *channel = &single.channel;
+
+    setting.mode = MODE_IB;
+    single = (struct single){.channel = draw_channel(draw, setting)};
+    channel->put = channel->get;
+    channel->setup.ib_order = order;
+    channel->ib_get = draw_below(draw, order < 2 ? UINT32_C(1) << order : 4);
+    channel->ib_put = (channel->ib_get + 1) % (UINT32_C(1) << order);
+    single.memory.entry_count = channel->ib_get + 1;
+    single.lens.entries = single.memory.entry_count;
+    single.memory.entries[channel->ib_get] = draw_entry(draw);
+    return single;
+}
+
+static void put_entries(struct vectors *vectors)
+{
+    for (uint32_t i = 0; i < 13 * 20; i++) {
+        struct single single = draw_entry_single(&vectors->draw, i % 13);
+
+        /* One in ten has too few entries. */
+        single.lens.entries -= i / 13 < 2;
+        put_single(vectors, &single);
+    }
+}
+
+/* Indices around the end of the lent entries and of the ring. */
+static void put_far_entries(struct vectors *vectors)
+{
+    for (uint32_t i = 0; i < 13 * 3; i++) {
+        uint32_t order = i % 13;
+        uint32_t places = UINT32_C(1) << order;
+        struct single single = draw_entry_single(&vectors->draw, order);
+
+        single.channel.ib_get = places - 1;
+        single.channel.ib_put = places / 2;
+        if (order < 3) {
+            single.memory.entry_count = places;
+            single.lens.entries = places - i / 26;
+            single.memory.entries[places - 1] = draw_entry(&vectors->draw);
+        }
+        put_single(vectors, &single);
+    }
+}
+
+/* ---- No word, no entry ---- */
+
+/* A retry: at every level, whatever is bound or valid, in either mode; at the last word and past it. */
+static void put_retries(struct vectors *vectors)
+{
+    for (uint32_t i = 0; i < STATES * 14; i++) {
+        struct state state = state_at(i % STATES);
+        struct single single = draw_reading(&vectors->draw, state.setting);
+
+        give_semaphores(&vectors->draw, &single);
+        single.channel.acquire_active = true;
+        single.channel.acquire_value = draw_below(&vectors->draw, 3);
+        if (i / STATES == 13)
+            single.channel.semaphore_offset = draw_any_number(&vectors->draw);
+        put_single(vectors, &single);
+    }
+}
+
+/* Stopped by either half or both, though there is a word, an entry or an acquire. */
+static void put_stopped(struct vectors *vectors)
+{
+    for (uint32_t i = 1; i < 7 * 7 * 3; i++) {
+        struct single single = draw_method(&vectors->draw, draw_setting(&vectors->draw), 0x6c);
+
+        if (i % 49 == 0)
+            continue;
+        single.channel.pusher_error = i % 7;
+        single.channel.puller_error = i / 7 % 7;
+        single.channel.acquire_active = i / 49 == 1;
+        if (i / 49 == 2)
+            single.channel.put = single.channel.get;
+        put_single(vectors, &single);
+    }
+}
+
+/* Nothing to read: in NV04-style, and in IB mode with both indices equal. */
+static void put_idle(struct vectors *vectors)
+{
+    for (uint32_t i = 0; i < STATES * 5; i++) {
+        struct single single = {.channel = draw_channel(&vectors->draw, state_at(i % STATES).setting)};
+
+        single.channel.put = single.channel.get;
+        single.channel.ib_put = single.channel.ib_get;
+        single.lens.words = draw_below(&vectors->draw, 4);
+        put_single(vectors, &single);
+    }
+}
+
+/* Anything that is well-formed. */
+static void put_any(struct vectors *vectors)
+{
+    for (uint32_t i = 0; i < 420; i++) {
+        struct draw *draw = &vectors->draw;
+        struct single single = {.channel = draw_channel(draw, draw_setting(draw))};
+
+        if (draw_once_in(draw, 2))
+            single.channel.get = 4 * draw_below(draw, 2);
+        if (draw_once_in(draw, 2))
+            single.channel.setup.dma_limit = UINT32_MAX;
+        single.channel.acquire_active = draw_once_in(draw, 10);
+        single.memory.word_count = 2;
+        single.memory.words[0] = draw_word(draw);
+        single.memory.words[1] = draw_below(draw, 9);
+        single.lens.words = draw_below(draw, 4);
+        give_objects(draw, &single);
+        if (draw_once_in(draw, 2))
+            give_semaphores(draw, &single);
+        put_single(vectors, &single);
+    }
+}
+
+/* ---- Refusals ---- */
+
+/* A step that would do something, with an ill-formed channel in its place; a release is about to be made, so
+ * that it is seen not to be. */
+static struct single draw_ill_formed(struct draw *draw, unsigned breach, unsigned which)
+{
+    struct single single = {.channel = draw_breach(draw, breach, which)};
+
+    single.memory.word_count = 1;
+    single.memory.words[0] = draw_below(draw, 3);
+    single.lens.words = 1;
+    give_semaphores(draw, &single);
+    if (draw_once_in(draw, 4))
+        single.channel.pusher_error = 1 + draw_below(draw, 6);
+    if (draw_once_in(draw, 4))
+        single.channel.acquire_active = true;
+    return single;
+}
+
+static void put_ill_formed(struct vectors *vectors)
+{
+    struct draw *draw = &vectors->draw;
+
+    for (unsigned breach = 0; breach < breach_count(); breach++)
+        for (unsigned i = 0; i < 2 * BREACHES; i++) {
+            struct single single = draw_ill_formed(draw, breach, i % BREACHES);
+
+            if (put_single(vectors, &single) == REFUSAL_STATE)
+                count_one(vectors, STATE, breach);
+        }
+    /* Two at once. */
+    for (unsigned i = 0; i < 3 * breach_count(); i++) {
+        struct single single = draw_ill_formed(draw, i / 3, BREACH_NEAR);
+
+        add_breach(&single.channel, draw_below(draw, breach_count()));
+        put_single(vectors, &single);
+    }
+}
+
+/* A step that would write a semaphore word, at a level that has it. */
+static struct single draw_release(struct draw *draw)
+{
+    struct single single = draw_method(draw, draw_setting_at(draw, 2 + draw_below(draw, 4)), 0x6c);
+
+    single.channel.dma_semaphore = 1;
+    single.channel.offset_valid = true;
+    return single;
+}
+
+/* Table lengths around those that are refused, whatever the step would do. */
+static void put_tables(struct vectors *vectors)
+{
+    static const uint32_t lents[] = {1, 2, 3, 4, 5, 4092, 4095, 4096, 4097, 4098, 4099, 4100, 4104};
+
+    for (uint32_t i = 0; i < 8 * sizeof lents / sizeof lents[0]; i++) {
+        struct single single = draw_release(&vectors->draw);
+
+        single.lens.table = lents[i / 8];
+        if (i % 8 == 0)
+            single.channel.puller_error = 1 + draw_below(&vectors->draw, 6);
+        if (i % 8 == 1)
+            single.channel.acquire_active = true;
+        if (i % 8 == 2)
+            single.channel.put = single.channel.get;
+        put_single(vectors, &single);
+    }
+}
+
+/* "Step: 13, 8, 5." Each of the three wrong or not; of the sizes either. Few, as the memory is large. */
+static void put_orders(struct vectors *vectors)
+{
+    for (uint32_t i = 0; i < 2 * 2 * 2 * 2; i++) {
+        struct draw *draw = &vectors->draw;
+        struct single single = i & 8 ? draw_ill_formed(draw, draw_below(draw, breach_count()), BREACH_NEAR)
+                                     : draw_release(draw);
+
+        single.lens.words = i & 1 ? SIZE_LIMIT + 1 : SIZE_LIMIT;
+        single.lens.semaphores = i & 2 ? SIZE_LIMIT + 1 : SIZE_LIMIT;
+        single.lens.table = i & 4 ? 4097 : 0;
+        put_single(vectors, &single);
+    }
+}
+
+/* SIZE whatever the step would do: stopped, a retry, nothing. */
+static void put_sizes(struct vectors *vectors)
+{
+    for (uint32_t i = 0; i < 2 * 3; i++) {
+        struct single single = draw_release(&vectors->draw);
+
+        if (i % 2 == 0)
+            single.lens.words = SIZE_LIMIT + 1;
+        else
+            single.lens.semaphores = SIZE_LIMIT + 1;
+        single.channel.pusher_error = i / 2 == 0 ? PUSHER_CALL : 0;
+        single.channel.acquire_active = i / 2 == 1;
+        if (i / 2 == 2)
+            single.channel.put = single.channel.get;
+        put_single(vectors, &single);
+    }
+}
+
+/* The last word of the largest pushbuffer, and one past it. */
+static void put_last_words(struct vectors *vectors)
+{
+    for (uint32_t i = 0; i < 4; i++) {
+        struct single single = draw_reading(&vectors->draw, draw_setting(&vectors->draw));
+
+        single.channel.get = 4 * (SIZE_LIMIT - 1 + i % 2);
+        single.channel.put = 0;
+        single.channel.setup.dma_limit = UINT32_MAX;
+        single.lens.words = SIZE_LIMIT;
+        put_single(vectors, &single);
+    }
+}
+
+/* The last word of the largest semaphore memory, and one past it: released, acquired, tried again. */
+static void put_last_semaphores(struct vectors *vectors)
+{
+    for (uint32_t i = 0; i < 6; i++) {
+        struct single single = draw_release(&vectors->draw);
+
+        single.channel.semaphore_offset = i % 2 == 0 ? 4 * SIZE_LIMIT - 1 : 4 * SIZE_LIMIT;
+        single.lens.semaphores = SIZE_LIMIT;
+        if (i / 2 == 1)
+            single.channel.method = 0x68 / 4;
+        single.channel.acquire_active = i / 2 == 2;
+        single.channel.acquire_value = 0;
+        put_single(vectors, &single);
+    }
+}
+
+void put_singles(struct vectors *vectors)
+{
+    put_methods(vectors);
+    put_more_methods(vectors);
+    put_engines(vectors);
+    put_forwards(vectors);
+    put_lookups(vectors);
+    put_far_lookups(vectors);
+    put_classes(vectors);
+    put_offsets(vectors);
+    put_semaphores(vectors);
+    put_far_releases(vectors);
+    put_commands(vectors);
+    put_any_commands(vectors);
+    put_conditionals(vectors);
+    put_count_words(vectors);
+    put_run_ends(vectors);
+    put_limits(vectors);
+    put_far_words(vectors);
+    put_entries(vectors);
+    put_far_entries(vectors);
+    put_retries(vectors);
+    put_stopped(vectors);
+    put_idle(vectors);
+    put_any(vectors);
+    put_ill_formed(vectors);
+    put_tables(vectors);
+    put_orders(vectors);
+    put_sizes(vectors);
+    put_last_words(vectors);
+    put_last_semaphores(vectors);
+}

@@ -1,0 +1,265 @@
+/* Channels to ask about, well-formed or not, and the PUT records, which need nothing else. */
+#include "channel_vectors.h"
+
+uint32_t draw_among(struct draw *draw, const uint32_t *numbers, uint32_t count)
+{
+    return numbers[draw_below(draw, count)];
+}
+
+uint32_t draw_any_number(struct draw *draw)
+{
+    static const uint32_t ends[] = {0, 1, 0x7fffffff, 0x80000000, 0xfffffffe, UINT32_MAX};
+    uint32_t number = draw_number(draw);
+
+    return draw_once_in(draw, 3) ? draw_among(draw, ends, sizeof ends / sizeof ends[0]) : number;
+}
+
+/* ---- Well-formed channels ---- */
+
+/* The widths of the words of a row, but for those that depend on the set-up: they stay 0 here, as do the
+ * errors and the active acquire. */
+static const unsigned char widths[CHANNEL_WORDS] = {
+    [AT_DMA_LIMIT] = 32,     [AT_GET] = 32,         [AT_PUT] = 32,           [AT_COUNT] = 24,
+    [AT_METHOD] = 11,        [AT_SUBCHANNEL] = 3,   [AT_INCREASING] = 1,     [AT_COUNT_AWAITED] = 1,
+    [AT_SUBROUTINE] = 1,     [AT_NOT_MAIN] = 1,     [AT_DMA_MGET] = 32,      [AT_RETURN_ADDRESS] = 32,
+    [AT_SLI_MASK] = 12,      [AT_SLI_ACTIVE] = 1,   [AT_ENGINES] = 5,        [AT_ENGINES + 1] = 5,
+    [AT_ENGINES + 2] = 5,    [AT_ENGINES + 3] = 5,  [AT_ENGINES + 4] = 5,    [AT_ENGINES + 5] = 5,
+    [AT_ENGINES + 6] = 5,    [AT_ENGINES + 7] = 5,  [AT_LAST_ENGINE] = 5,    [AT_REF] = 32,
+    [AT_DMA_SEMAPHORE] = 32, [AT_OFFSET_VALID] = 1, [AT_ACQUIRE_VALUE] = 32, [AT_SEMAPHORE_OFFSET] = 32,
+    [AT_DMA_MGET_VALID] = 1,
+};
+
+/* The part of a channel that only IB mode has. */
+static void draw_ib(struct draw *draw, struct channel *channel)
+{
+    channel->setup.ib_order = draw_below(draw, ORDER_LIMIT + 1);
+    channel->ib_get = draw_below(draw, UINT32_C(1) << channel->setup.ib_order);
+    channel->ib_put = draw_below(draw, UINT32_C(1) << channel->setup.ib_order);
+    channel->get |= (uint64_t)draw_below(draw, 256) << 32;
+    channel->put |= (uint64_t)draw_below(draw, 256) << 32;
+    channel->dma_mget |= (uint64_t)draw_below(draw, 256) << 32;
+}
+
+struct channel draw_channel(struct draw *draw, struct setting setting)
+{
+    struct record record = {{0}};
+    struct channel channel;
+
+    for (unsigned i = 0; i < CHANNEL_WORDS; i++)
+        if (widths[i] != 0)
+            record.word[i] = draw_any_number(draw) >> (32 - widths[i]);
+    channel = channel_of(&record);
+    channel.setup.setting = setting;
+    channel.get -= channel.get % 4;
+    channel.put -= channel.put % 4;
+    channel.return_address -= channel.return_address % 4;
+    if (setting.mode == MODE_IB)
+        draw_ib(draw, &channel);
+    return channel;
+}
+
+/* ---- Breaches ---- */
+
+/* Where a breach asks for no mode or for no SLI setting. */
+enum { ANY = 2 };
+
+/* A number that makes a channel ill-formed, in a mode, SLI setting and ib_order in which nothing else does:
+ * the nearest good one, then three bad ones. Among these are such that a narrower type would cut to good
+ * ones. */
+struct breach {
+    uint32_t mode;
+    uint32_t sli;
+    uint32_t order;
+    unsigned at;
+    uint64_t numbers[BREACHES];
+};
+
+static const struct breach breaches[] = {
+    /* "a combination that 1 to 4 refuse" */
+    {MODE_NV04, ANY, 0, AT_LEVEL, {5, 6, 256, UINT32_MAX}},
+    {MODE_IB, ANY, 12, AT_LEVEL, {5, 6, 260, UINT32_MAX}},
+    {MODE_NV04, ANY, 0, AT_MODE, {0, 2, 256, UINT32_MAX}},
+    {MODE_IB, ANY, 12, AT_MODE, {1, 2, 257, UINT32_MAX}},
+    {MODE_IB, false, 12, AT_LEVEL, {4, 3, 2, 0}},
+    {MODE_IB, ANY, 12, AT_IB_ORDER, {12, 13, 256, UINT32_MAX}},
+    {MODE_NV04, true, 0, AT_LEVEL, {3, 2, 1, 0}},
+    /* "In NV04-style ib_order is held as 0, else 13." */
+    {MODE_NV04, ANY, 0, AT_IB_ORDER, {0, 1, 12, UINT32_MAX}},
+    /* "read, put and dma_mget 32 bits in NV04-style, 40 in IB" */
+    {MODE_NV04, ANY, 0, AT_GET, {0xfffffffc, UINT64_C(1) << 32, UINT64_C(1) << 63, UINT64_MAX - 3}},
+    {MODE_NV04, ANY, 0, AT_PUT, {0xfffffffc, UINT64_C(1) << 32, UINT64_C(1) << 63, UINT64_MAX - 3}},
+    {MODE_NV04, ANY, 0, AT_DMA_MGET, {0xffffffff, UINT64_C(1) << 32, UINT64_C(1) << 39, UINT64_MAX}},
+    {MODE_IB, ANY, 12, AT_GET, {0xfffffffffc, UINT64_C(1) << 40, UINT64_C(1) << 63, UINT64_MAX - 3}},
+    {MODE_IB, ANY, 12, AT_PUT, {0xfffffffffc, UINT64_C(1) << 40, UINT64_C(1) << 63, UINT64_MAX - 3}},
+    {MODE_IB, ANY, 12, AT_DMA_MGET, {0xffffffffff, UINT64_C(1) << 40, UINT64_C(1) << 63, UINT64_MAX}},
+    /* "a read, put or return address not a multiple of 4" */
+    {ANY, ANY, 0, AT_GET, {0, 1, 2, 0xffffffff}},
+    {ANY, ANY, 0, AT_PUT, {0, 1, 2, 0xffffffff}},
+    {ANY, ANY, 0, AT_RETURN_ADDRESS, {0xfffffffc, 1, 2, 0xffffffff}},
+    /* "ib_get and ib_put below 2^ib_order" */
+    {MODE_IB, ANY, 12, AT_IB_GET, {4095, 4096, 65536, UINT32_MAX}},
+    {MODE_IB, ANY, 12, AT_IB_PUT, {4095, 4096, 65536, UINT32_MAX}},
+    {MODE_IB, ANY, 5, AT_IB_GET, {31, 32, 256, UINT32_MAX}},
+    {MODE_IB, ANY, 5, AT_IB_PUT, {31, 32, 256, UINT32_MAX}},
+    {MODE_IB, ANY, 0, AT_IB_GET, {0, 1, 256, UINT32_MAX}},
+    {MODE_IB, ANY, 0, AT_IB_PUT, {0, 1, 256, UINT32_MAX}},
+    {MODE_NV04, ANY, 0, AT_IB_GET, {0, 1, 256, UINT32_MAX}},
+    {MODE_NV04, ANY, 0, AT_IB_PUT, {0, 1, 256, UINT32_MAX}},
+    /* "count 24 bits, SLI mask 12, method number 11, engine 5, subchannel 3" */
+    {ANY, ANY, 0, AT_COUNT, {0xffffff, 0x1000000, 0x80000000, UINT32_MAX}},
+    {ANY, ANY, 0, AT_SLI_MASK, {4095, 4096, 65536, UINT32_MAX}},
+    {ANY, ANY, 0, AT_METHOD, {2047, 2048, 0x8000, 0xffff}},
+    {ANY, ANY, 0, AT_SUBCHANNEL, {7, 8, 256, UINT32_MAX}},
+    {ANY, ANY, 0, AT_LAST_ENGINE, {31, 32, 256, UINT32_MAX}},
+    {ANY, ANY, 0, AT_ENGINES, {31, 32, 256, UINT32_MAX}},
+    {ANY, ANY, 0, AT_ENGINES + 1, {31, 32, 256, UINT32_MAX}},
+    {ANY, ANY, 0, AT_ENGINES + 2, {31, 32, 256, UINT32_MAX}},
+    {ANY, ANY, 0, AT_ENGINES + 3, {31, 32, 256, UINT32_MAX}},
+    {ANY, ANY, 0, AT_ENGINES + 4, {31, 32, 256, UINT32_MAX}},
+    {ANY, ANY, 0, AT_ENGINES + 5, {31, 32, 256, UINT32_MAX}},
+    {ANY, ANY, 0, AT_ENGINES + 6, {31, 32, 256, UINT32_MAX}},
+    {ANY, ANY, 0, AT_ENGINES + 7, {31, 32, 256, UINT32_MAX}},
+};
+
+unsigned breach_count(void)
+{
+    return sizeof breaches / sizeof breaches[0];
+}
+
+/* A setting that isn't refused, of the mode and with the SLI setting that a breach asks for. */
+static struct setting draw_breach_setting(struct draw *draw, const struct breach *breach)
+{
+    struct setting setting;
+
+    do
+        setting = draw_setting(draw);
+    while ((breach->mode != ANY && setting.mode != breach->mode) ||
+           (breach->sli != ANY && setting.sli != (breach->sli != 0)));
+    return setting;
+}
+
+static void set_number(struct channel *channel, unsigned at, uint64_t number)
+{
+    struct record record = record_of(channel);
+
+    record_set(&record, at, number);
+    *channel = channel_of(&record);
+}
+
+struct channel draw_breach(struct draw *draw, unsigned breach, unsigned which)
+{
+    const struct breach *row = &breaches[breach];
+    struct channel channel = draw_channel(draw, draw_breach_setting(draw, row));
+
+    channel.setup.ib_order = row->order;
+    channel.ib_get %= UINT32_C(1) << row->order;
+    channel.ib_put %= UINT32_C(1) << row->order;
+    set_number(&channel, row->at, row->numbers[which]);
+    return channel;
+}
+
+void add_breach(struct channel *channel, unsigned breach)
+{
+    set_number(channel, breaches[breach].at, breaches[breach].numbers[BREACH_NEAR]);
+}
+
+/* ---- PUT ---- */
+
+static void put_put(struct vectors *vectors, struct channel channel, uint32_t put)
+{
+    static struct buffer buffer;
+    size_t header;
+    uint32_t refusal;
+
+    buffer.count = 0;
+    add_channel(&buffer, &channel);
+    add(&buffer, put);
+    header = buffer.count++;
+    refusal = add_put(&buffer, header, &channel, put);
+    put_record(vectors, PUT, buffer.words, buffer.count, refusal);
+}
+
+/* A channel for put: one in three is stopped, by either half or both. */
+static struct channel draw_put_channel(struct draw *draw, struct setting setting)
+{
+    struct channel channel = draw_channel(draw, setting);
+
+    if (draw_once_in(draw, 3)) {
+        channel.pusher_error = draw_below(draw, 7);
+        channel.puller_error = draw_below(draw, 7);
+    }
+    channel.acquire_active = draw_once_in(draw, 3);
+    return channel;
+}
+
+static void put_puts_nv04(struct vectors *vectors, struct setting setting)
+{
+    static const uint32_t puts[] = {0,          1,          2,          3,          4,         0x7ffffffc,
+                                    0x80000000, 0xfffffffc, 0xfffffffd, 0xfffffffe, 0xffffffff};
+
+    for (unsigned i = 0; i < 3; i++)
+        for (unsigned j = 0; j < sizeof puts / sizeof puts[0]; j++)
+            put_put(vectors, draw_put_channel(&vectors->draw, setting), puts[j]);
+    for (unsigned i = 0; i < 6; i++) {
+        struct channel channel = draw_put_channel(&vectors->draw, setting);
+
+        put_put(vectors, channel, draw_number(&vectors->draw) & ~UINT32_C(3));
+        put_put(vectors, channel, (uint32_t)channel.put);
+    }
+}
+
+static void put_puts_ib(struct vectors *vectors, struct setting setting)
+{
+    for (uint32_t order = 0; order <= ORDER_LIMIT; order++) {
+        uint32_t places = UINT32_C(1) << order;
+        uint32_t puts[] = {0, places / 2, places - 1, places, places + 1, 65536 + places / 2, UINT32_MAX};
+
+        for (unsigned i = 0; i < sizeof puts / sizeof puts[0]; i++) {
+            struct channel channel = draw_put_channel(&vectors->draw, setting);
+
+            channel.setup.ib_order = order;
+            channel.ib_get %= places;
+            channel.ib_put %= places;
+            put_put(vectors, channel, puts[i]);
+        }
+    }
+}
+
+/* "Setting put: 13, 7." A put that is good in both modes, and one that is bad. */
+static void put_puts_ill_formed(struct vectors *vectors)
+{
+    struct draw *draw = &vectors->draw;
+
+    for (unsigned breach = 0; breach < breach_count(); breach++)
+        for (unsigned which = 0; which < BREACHES; which++) {
+            put_put(vectors, draw_breach(draw, breach, which), 0);
+            put_put(vectors, draw_breach(draw, breach, which), UINT32_MAX);
+        }
+    for (unsigned i = 0; i < 2 * breach_count(); i++) {
+        struct channel channel = draw_breach(draw, i / 2, BREACH_NEAR);
+
+        add_breach(&channel, draw_below(draw, breach_count()));
+        put_put(vectors, channel, i % 2 == 0 ? 0 : UINT32_MAX);
+    }
+}
+
+void put_puts(struct vectors *vectors)
+{
+    for (uint32_t i = 0; i < 24; i++) {
+        struct setting setting = {i / 4, i / 2 % 2, i % 2 == 1};
+
+        if (model_setting_refusal(setting) != REFUSAL_NONE)
+            continue;
+        if (setting.mode == MODE_IB)
+            put_puts_ib(vectors, setting);
+        else
+            put_puts_nv04(vectors, setting);
+    }
+    put_puts_ill_formed(vectors);
+    for (unsigned i = 0; i < 380; i++) {
+        struct setting setting = draw_setting(&vectors->draw);
+        struct channel channel = draw_put_channel(&vectors->draw, setting);
+
+        put_put(vectors, channel, draw_any_number(&vectors->draw) >> (setting.mode == MODE_IB ? 20 : 0));
+    }
+}

@@ -1,0 +1,1398 @@
+/* The self-test of the model of the channel: the paper's sentences as cases worked out by hand, its printed
+ * example, second readings of opening and of STATE, and what must hold of any run. */
+#include <inttypes.h>
+#include <stdio.h>
+#include <stdlib.h>
+#include <string.h>
+
+#include "channel.h"
+#include "draw.h"
+#include "record.h"
+
+static uint64_t checks;
+
+/* Counts a check; the first that fails is named and ends the run. */
+static void check(bool good, const char *sentence, uint32_t level, uint32_t mode)
+{
+    checks++;
+    if (good)
+        return;
+    fprintf(stderr, "channel model: failed: %s (level %" PRIu32 ", mode %" PRIu32 ")\n", sentence, level,
+            mode);
+    exit(1);
+}
+
+static bool same_channel(const struct channel *a, const struct channel *b)
+{
+    struct record first = record_of(a);
+    struct record second = record_of(b);
+
+    return memcmp(&first, &second, sizeof first) == 0;
+}
+
+static bool same_answer(struct answer a, struct answer b)
+{
+    return a.refusal == b.refusal && a.kind == b.kind && a.fields == b.fields &&
+           a.subchannel == b.subchannel && a.method == b.method && a.parameter == b.parameter;
+}
+
+static struct answer plain(uint32_t kind)
+{
+    return (struct answer){.kind = kind};
+}
+
+static struct answer refused(uint32_t refusal)
+{
+    return (struct answer){.refusal = refusal};
+}
+
+static struct answer method(uint32_t kind, uint32_t subchannel, uint32_t number, uint32_t parameter)
+{
+    return (struct answer){REFUSAL_NONE, kind, true, subchannel, number, parameter};
+}
+
+/* ---- The scene of a case ---- */
+
+/* Handle, engine, address, class. The bits that the paper doesn't name are set in some. */
+static const uint32_t objects[] = {
+    0x100, 0x05,       0xa0, 0x30002,    /* a good semaphore object, engine 5 */
+    0x200, 0xffffffe0, 0xa1, 0x30002,    /* engine 0 */
+    0x300, 0x1f,       0xa2, 0x30003,    /* class not 2, engine 31 */
+    0x400, 0x06,       0xa3, 0x20002,    /* not write-only */
+    0x500, 0x07,       0xa4, 0x10002,    /* page table absent */
+    0x600, 0xffffffe8, 0xa5, 0xffff0002, /* good, engine 8 */
+    0x700, 0x09,       0x00, 0x30002,    /* address 0 */
+    0x100, 0x0a,       0xa7, 0x30002,    /* the first one's handle again */
+};
+
+/* The memory lent to each case, the semaphore words expected after it, and what of it is lent. */
+static struct {
+    uint32_t words[8];
+    uint64_t entries[4];
+    uint32_t semaphores[4];
+    uint32_t expected[4];
+    struct lent lent;
+} scene;
+
+/* A fresh scene, and a channel that was opened: order 2, no limit, mask 5. */
+static struct channel at(uint32_t level, uint32_t mode, bool sli)
+{
+    struct setup setup = {{level, mode, sli}, mode == MODE_IB ? 2 : 0, UINT32_MAX, 5};
+    struct channel channel;
+
+    memset(&scene, 0, sizeof scene);
+    for (uint32_t i = 0; i < 4; i++)
+        scene.semaphores[i] = scene.expected[i] = 10 + i;
+    scene.lent = (struct lent){
+        scene.words, 8, scene.entries, 4, objects, sizeof objects / sizeof objects[0], scene.semaphores, 4};
+    check(model_open(&channel, setup, NULL, 0).refusal == REFUSAL_NONE, "a channel opens", level, mode);
+    return channel;
+}
+
+/* A channel that is about to read word 0 of eight. */
+static struct channel reading(uint32_t level, uint32_t mode, bool sli)
+{
+    struct channel channel = at(level, mode, sli);
+
+    channel.put = 32;
+    return channel;
+}
+
+/* A channel that is about to read word 0 as the first of two parameters of a non-increasing method. The
+ * puller's numbers are set, so that what must stay is seen to. */
+static struct channel taking(uint32_t level, uint32_t number, uint32_t parameter)
+{
+    struct channel channel = reading(level, MODE_NV04, false);
+
+    channel.count = 2;
+    channel.subchannel = 3;
+    channel.method = number / 4;
+    channel.last_engine = 17;
+    channel.engines[2] = 18;
+    channel.engines[3] = 19;
+    channel.engines[4] = 20;
+    channel.ref = 21;
+    scene.words[0] = parameter;
+    return channel;
+}
+
+/* The channel after word 0 is read: in IB mode dma_mget follows, unless NOT_MAIN is set. */
+static struct channel advanced(struct channel channel)
+{
+    channel.get = 4;
+    if (channel.setup.setting.mode == MODE_IB && !channel.not_main) {
+        channel.dma_mget = 4;
+        channel.dma_mget_valid = true;
+    }
+    return channel;
+}
+
+/* The channel after word 0 is taken as a parameter, as far as the pusher goes. */
+static struct channel submitted(struct channel channel)
+{
+    channel = advanced(channel);
+    channel.count--;
+    if (channel.increasing)
+        channel.method++;
+    return channel;
+}
+
+static struct channel pusher_stopped(struct channel channel, uint32_t error)
+{
+    channel.pusher_error = error;
+    return channel;
+}
+
+static struct channel puller_stopped(struct channel channel, uint32_t error)
+{
+    channel.puller_error = error;
+    return channel;
+}
+
+/* One step leads from one channel to the other with this answer, and to the semaphore words expected. */
+static void steps(const char *sentence, struct channel before, struct answer answer, struct channel after)
+{
+    struct setting setting = before.setup.setting;
+    struct answer got = model_step(&before, &scene.lent);
+
+    check(same_answer(got, answer), sentence, setting.level, setting.mode);
+    check(same_channel(&before, &after), sentence, setting.level, setting.mode);
+    check(memcmp(scene.semaphores, scene.expected, sizeof scene.expected) == 0, sentence, setting.level,
+          setting.mode);
+}
+
+/* ---- Opening ---- */
+
+enum { OPENINGS = 7 };
+
+/* The paper's conditions of opening, in its order, each by itself. */
+static uint32_t first_of_opening(struct setup setup, size_t count, bool repeats)
+{
+    static const uint32_t numbers[OPENINGS] = {1, 2, 3, 4, 10, 5, 6};
+    struct setting setting = setup.setting;
+    bool conditions[OPENINGS] = {
+        setting.level > 5,
+        setting.mode > 1 || (setting.mode == 1 && setting.level < 4),
+        setting.mode == 1 && setup.ib_order > 12,
+        setting.sli && setting.level<3, setup.sli_mask> 4095,
+        count % 4 != 0 || count > 4096,
+        repeats,
+    };
+
+    for (unsigned i = 0; i < OPENINGS; i++)
+        if (conditions[i])
+            return numbers[i];
+    return REFUSAL_NONE;
+}
+
+/* What opening must leave: "the blank channel (level 0, NV04-style, all else 0)" or a fresh one. */
+static struct channel opened_as(struct setup setup, uint32_t refusal)
+{
+    struct channel channel = {0};
+
+    if (refusal != REFUSAL_NONE)
+        return channel;
+    if (setup.setting.mode == MODE_NV04)
+        setup.ib_order = 0;
+    channel.setup = setup;
+    channel.sli_active = true;
+    return channel;
+}
+
+/* Opening over tables of every length at issue, the handles rising, without a repeat and with one. */
+static void test_opening_tables(struct setup setup)
+{
+    static const size_t counts[] = {0, 3, 4, 8, 4092, 4096, 4097, 4099, 4100};
+    static uint32_t table[4100];
+
+    for (unsigned i = 0; i < 2 * sizeof counts / sizeof counts[0]; i++) {
+        size_t count = counts[i / 2];
+        bool repeats = i % 2 == 1 && count >= 8;
+        struct channel channel, wanted;
+        struct opened opened;
+        uint32_t refusal;
+
+        for (uint32_t j = 0; j < count; j++)
+            table[j] = j;
+        if (repeats)
+            table[4 * (count / 4 - 1)] = 0;
+        opened = model_open(&channel, setup, table, count);
+        refusal = first_of_opening(setup, count, repeats);
+        wanted = opened_as(setup, refusal);
+        check(opened.refusal == refusal, "the order of opening", setup.setting.level, setup.setting.mode);
+        check(opened.entry == (refusal == REFUSAL_DUPLICATE ? count / 4 - 1 : 0), "the entry",
+              setup.setting.level, setup.setting.mode);
+        check(same_channel(&channel, &wanted), "blank or fresh", setup.setting.level, setup.setting.mode);
+    }
+}
+
+static void test_opening(void)
+{
+    static const uint32_t levels[] = {0, 2, 3, 4, 5, 6, 256, 260, UINT32_MAX};
+    static const uint32_t modes[] = {MODE_NV04, MODE_IB, 2, 256, 257, UINT32_MAX};
+    static const uint32_t orders[] = {0, 12, 13, 256, UINT32_MAX};
+    static const uint32_t masks[] = {0, 4095, 4096, 65536};
+
+    for (unsigned i = 0; i < 9; i++)
+        for (unsigned j = 0; j < 6; j++)
+            for (unsigned k = 0; k < 5; k++)
+                for (unsigned l = 0; l < 8; l++) {
+                    struct setting setting = {levels[i], modes[j], l >= 4};
+
+                    test_opening_tables((struct setup){setting, orders[k], 99, masks[l % 4]});
+                }
+}
+
+/* "for 6, the lowest entry that repeats an earlier one" */
+static void test_repeats(void)
+{
+    static const struct {
+        uint32_t handles[6];
+        uint32_t entry;
+    } rows[] = {
+        {{1, 1, 2, 3, 4, 5}, 1}, {{1, 2, 3, 4, 5, 5}, 5}, {{0, 2, 3, 4, 5, 0}, 5},
+        {{1, 2, 2, 4, 5, 1}, 2}, {{1, 2, 3, 2, 1, 3}, 3}, {{7, 7, 7, 7, 7, 7}, 1},
+    };
+
+    for (size_t i = 0; i < sizeof rows / sizeof rows[0]; i++) {
+        /* The other words of the entries repeat as they like. */
+        uint32_t table[24] = {0};
+        struct setup setup = {{3, MODE_NV04, false}, 0, 0, 0};
+        struct channel channel;
+        struct opened opened;
+
+        for (unsigned j = 0; j < 6; j++)
+            table[4 * j] = rows[i].handles[j];
+        opened = model_open(&channel, setup, table, 24);
+        check(opened.refusal == REFUSAL_DUPLICATE && opened.entry == rows[i].entry, "DUPLICATE", 3, 0);
+        opened = model_open(&channel, setup, table, 4 * rows[i].entry);
+        check(opened.refusal == REFUSAL_NONE, "entries that aren't lent repeat nothing", 3, 0);
+    }
+}
+
+/* ---- Put ---- */
+
+static void sets_put(const char *sentence, struct channel before, uint32_t put, uint32_t refusal,
+                     struct channel after)
+{
+    struct setting setting = before.setup.setting;
+
+    check(model_set_put(&before, put) == refusal, sentence, setting.level, setting.mode);
+    check(same_channel(&before, &after), sentence, setting.level, setting.mode);
+}
+
+static void test_put(void)
+{
+    struct channel nv04 = at(5, MODE_NV04, false);
+    struct channel ib = at(5, MODE_IB, false);
+    struct channel after = nv04;
+
+    after.put = 0xfffffffc;
+    sets_put("NV04-style: a multiple of 4", nv04, 0xfffffffc, REFUSAL_NONE, after);
+    for (uint32_t put = 1; put < 4; put++)
+        sets_put("NV04-style: not a multiple of 4", nv04, put, REFUSAL_PUT, nv04);
+    nv04.puller_error = PULLER_NO_HASH;
+    after.puller_error = PULLER_NO_HASH;
+    sets_put("Put may be set on a stopped channel; it stays stopped", nv04, 0xfffffffc, REFUSAL_NONE, after);
+    steps("a stopped channel with another put", after, plain(KIND_STOPPED), after);
+    nv04.subchannel = 8;
+    sets_put("Setting put: 13, 7", nv04, 1, REFUSAL_STATE, nv04);
+
+    after = ib;
+    after.ib_put = 3;
+    sets_put("IB: below 2^ib_order", ib, 3, REFUSAL_NONE, after);
+    sets_put("IB: not below 2^ib_order", ib, 4, REFUSAL_PUT, ib);
+    ib.setup.ib_order = 0;
+    sets_put("order 0 holds one place", ib, 0, REFUSAL_NONE, ib);
+    sets_put("order 0 holds one place", ib, 1, REFUSAL_PUT, ib);
+    ib.setup.ib_order = 13;
+    sets_put("Setting put: 13, 7", ib, UINT32_MAX, REFUSAL_STATE, ib);
+}
+
+/* ---- The order of a step ---- */
+
+/* A channel that could do each of the five: words and entries wait, an acquire is active. */
+static struct channel busy(uint32_t level)
+{
+    struct channel channel = reading(level, MODE_IB, true);
+
+    channel.ib_put = 3;
+    channel.acquire_active = true;
+    channel.acquire_value = 10;
+    scene.words[0] = 0x00040100;
+    scene.entries[0] = UINT64_C(0x00000e0000001000);
+    return channel;
+}
+
+static void test_step_order(uint32_t level)
+{
+    struct channel channel = busy(level);
+    struct channel after;
+
+    for (uint32_t error = 1; error <= 6; error++) {
+        after = pusher_stopped(channel, error);
+        steps("Stopped by an error: answers stopped, nothing changes", after, plain(KIND_STOPPED), after);
+        after = puller_stopped(channel, error);
+        steps("Stopped by an error: answers stopped, nothing changes", after, plain(KIND_STOPPED), after);
+    }
+    after = channel;
+    after.acquire_active = false;
+    steps("Acquire active: reads the semaphore again", channel, plain(KIND_ACQUIRE), after);
+
+    channel = after;
+    after = advanced(channel);
+    after.count = 1;
+    after.method = 0x100 / 4;
+    after.increasing = true;
+    steps("Read address unequal to put: reads one word", channel, plain(KIND_COMMAND), after);
+
+    channel.put = 0;
+    after = channel;
+    after.ib_get = 1;
+    after.get = 0x1000;
+    after.put = 0x100c;
+    after.not_main = true;
+    steps("IB mode, ib_get unequal to ib_put: reads one entry", channel, plain(KIND_ENTRY), after);
+
+    channel.ib_put = 0;
+    steps("Idle", channel, plain(KIND_IDLE), channel);
+}
+
+/* "Step: 13, 8, 5." A refusal comes before all five, also on a stopped channel. */
+static void test_step_refusals(void)
+{
+    static uint32_t many[SIZE_LIMIT + 1];
+    struct channel channel = pusher_stopped(busy(4), PUSHER_IB);
+    struct channel broken = channel;
+
+    broken.count = 1 << 24;
+    scene.lent.words = many;
+    scene.lent.word_count = SIZE_LIMIT + 1;
+    scene.lent.table_count = 3;
+    steps("STATE before SIZE", broken, refused(REFUSAL_STATE), broken);
+    steps("SIZE before TABLE", channel, refused(REFUSAL_SIZE), channel);
+    scene.lent.word_count = SIZE_LIMIT;
+    steps("1,048,576 words are not over", channel, refused(REFUSAL_TABLE), channel);
+    steps("STATE before TABLE", broken, refused(REFUSAL_STATE), broken);
+    scene.lent.semaphores = many;
+    scene.lent.semaphore_count = SIZE_LIMIT + 1;
+    steps("semaphore memory over 1,048,576 words", channel, refused(REFUSAL_SIZE), channel);
+    scene.lent.semaphore_count = SIZE_LIMIT;
+    scene.lent.table = many;
+    scene.lent.table_count = 4097;
+    steps("object table not a multiple of 4 words", channel, refused(REFUSAL_TABLE), channel);
+    scene.lent.table_count = 4100;
+    steps("object table over 4,096 words", channel, refused(REFUSAL_TABLE), channel);
+    scene.lent.table_count = 4096;
+    steps("4,096 words are not over; one handle many times", channel, plain(KIND_STOPPED), channel);
+}
+
+/* ---- Words ---- */
+
+/* Words whose count is their place plus one. */
+static void test_addresses(uint32_t mode)
+{
+    for (uint32_t place = 0; place < 8; place++) {
+        struct channel channel = reading(5, mode, false);
+        struct channel after;
+
+        for (uint32_t i = 0; i < 8; i++)
+            scene.words[i] = (i + 1) << 18;
+        channel.get = 4 * place;
+        after = advanced(channel);
+        after.count = place + 1;
+        after.increasing = true;
+        after.get = 4 * place + 4;
+        if (mode == MODE_IB)
+            after.dma_mget = after.get;
+        steps("Address 0 is the first lent word; the read address rises by 4", channel, plain(KIND_COMMAND),
+              after);
+    }
+}
+
+static void test_protection(uint32_t level, uint32_t mode)
+{
+    struct channel channel = reading(level, mode, false);
+    struct channel after;
+
+    channel.get = 8;
+    channel.setup.dma_limit = 7;
+    steps("PROTECTION if g is above dma_limit, in either mode; g stays", channel, plain(KIND_ERROR),
+          pusher_stopped(channel, PUSHER_PROTECTION));
+    scene.lent.word_count = 3;
+    channel.setup.dma_limit = 8;
+    after = advanced(channel);
+    after.get = 12;
+    if (mode == MODE_IB)
+        after.dma_mget = 12;
+    steps("g at dma_limit, the last lent word", channel, plain(KIND_COMMAND), after);
+    scene.lent.word_count = 2;
+    steps("PROTECTION if beyond the lent words; g stays", channel, plain(KIND_ERROR),
+          pusher_stopped(channel, PUSHER_PROTECTION));
+}
+
+/* An address of 40 bits is above a limit of 32, and isn't cut to an index. */
+static void test_protection_far(void)
+{
+    struct channel channel = reading(4, MODE_IB, false);
+
+    channel.get = UINT64_C(1) << 32;
+    steps("g is above dma_limit", channel, plain(KIND_ERROR), pusher_stopped(channel, PUSHER_PROTECTION));
+    channel = reading(4, MODE_NV04, false);
+    channel.get = 0xfffffffc;
+    steps("beyond the lent words", channel, plain(KIND_ERROR), pusher_stopped(channel, PUSHER_PROTECTION));
+}
+
+/* "The word is the count if a long form waits for one, else a parameter while the count isn't used up, else
+ * a command." */
+static void test_roles(uint32_t mode)
+{
+    struct channel channel = reading(4, mode, false);
+    struct channel after;
+
+    scene.words[0] = 0xff000050;
+    channel.count = 3;
+    channel.method = 0x50 / 4;
+    channel.count_awaited = true;
+    after = advanced(channel);
+    after.count = 0x50;
+    after.count_awaited = false;
+    steps("the count if a long form waits for one", channel, plain(KIND_COUNT), after);
+
+    channel.count_awaited = false;
+    after = submitted(channel);
+    after.ref = 0xff000050;
+    steps("else a parameter while the count isn't used up", channel, method(KIND_REF, 0, 0x50, 0xff000050),
+          after);
+
+    channel.count = 1;
+    after = submitted(channel);
+    after.ref = 0xff000050;
+    steps("the last parameter", channel, method(KIND_REF, 0, 0x50, 0xff000050), after);
+
+    channel.count = 0;
+    steps("else a command", channel, plain(KIND_ERROR),
+          pusher_stopped(advanced(channel), PUSHER_RESERVED_CMD));
+}
+
+static void test_method_commands(uint32_t mode)
+{
+    struct channel channel = reading(5, mode, false);
+    struct channel after = advanced(channel);
+
+    channel.method = after.method = 9;
+    channel.subchannel = after.subchannel = 6;
+    scene.words[0] = 0x00002180;
+    steps("A command with count 0 does nothing", channel, plain(KIND_COMMAND), after);
+    scene.words[0] = 0x40002180;
+    channel.increasing = after.increasing = true;
+    steps("A command with count 0 does nothing", channel, plain(KIND_COMMAND), after);
+
+    scene.words[0] = 0x400cfffc;
+    after.count = 3;
+    after.subchannel = 7;
+    after.method = 0x7ff;
+    after.increasing = false;
+    steps("non-increasing 3, subchannel 7, 0x1ffc", channel, plain(KIND_COMMAND), after);
+
+    channel.increasing = false;
+    scene.words[0] = 0x1ffc2180;
+    after.count = 0x7ff;
+    after.subchannel = 1;
+    after.method = 0x180 / 4;
+    after.increasing = true;
+    steps("increasing 2047, subchannel 1, 0x0180", channel, plain(KIND_COMMAND), after);
+}
+
+static void test_long(void)
+{
+    struct channel channel = reading(4, MODE_IB, false);
+    struct channel after;
+
+    channel.increasing = true;
+    scene.words[0] = 0x00034100;
+    after = advanced(channel);
+    after.subchannel = 2;
+    after.method = 0x100 / 4;
+    after.increasing = false;
+    after.count_awaited = true;
+    steps("long, subchannel 2, 0x0100", channel, plain(KIND_COMMAND), after);
+
+    channel = reading(4, MODE_NV04, false);
+    scene.words[0] = 0x00034100;
+    steps("long: IB only", channel, plain(KIND_ERROR),
+          pusher_stopped(advanced(channel), PUSHER_RESERVED_CMD));
+}
+
+/* "An SLI conditional sets sli_active exactly if its mask and the channel's share a set bit, else clears
+ * it." */
+static void test_conditional(uint32_t level, uint32_t mode)
+{
+    static const struct {
+        uint32_t word;
+        bool active;
+    } rows[] = {{0x00010050, true}, {0x000100a0, false}, {0x00010000, false}, {0x0001fff0, true},
+                {0x00010010, true}, {0x00010020, false}, {0x00010040, true},  {0x00018000, false}};
+    struct channel channel;
+
+    for (unsigned i = 0; i < 2 * sizeof rows / sizeof rows[0]; i++) {
+        struct channel after;
+
+        channel = reading(level, mode, true);
+        channel.sli_active = i % 2 == 1;
+        scene.words[0] = rows[i / 2].word;
+        after = advanced(channel);
+        after.sli_active = rows[i / 2].active;
+        steps("An SLI conditional", channel, plain(KIND_COMMAND), after);
+    }
+    channel = reading(level, mode, false);
+    scene.words[0] = 0x00010050;
+    steps("an SLI conditional with SLI off", channel, plain(KIND_ERROR),
+          pusher_stopped(advanced(channel), PUSHER_RESERVED_CMD));
+}
+
+/* ---- Jump, call, return ---- */
+
+static void test_jumps(uint32_t level)
+{
+    struct channel channel = reading(level, MODE_NV04, false);
+    struct channel after = advanced(channel);
+
+    scene.words[0] = 0x3ffffffc;
+    after.get = 0x1ffffffc;
+    steps("old jump", channel, plain(KIND_COMMAND), after);
+    scene.words[0] = 0x20000000;
+    after.get = 0;
+    steps("old jump to itself", channel, plain(KIND_COMMAND), after);
+    scene.words[0] = 0x00010001;
+    after.get = 0x00010000;
+    if (level >= 2)
+        steps("0x00010001 is a jump to 0x00010000 at level 2", channel, plain(KIND_COMMAND), after);
+    else
+        steps("jump: level 2 up", channel, plain(KIND_ERROR),
+              pusher_stopped(advanced(channel), PUSHER_RESERVED_CMD));
+    scene.words[0] = 0xfffffffd;
+    after.get = 0xfffffffc;
+    if (level >= 2)
+        steps("a jump has 32 bits", channel, plain(KIND_COMMAND), after);
+}
+
+static void test_call(uint32_t level)
+{
+    struct channel channel = reading(level, MODE_NV04, false);
+    struct channel after = advanced(channel);
+
+    scene.words[0] = 0x00002002;
+    channel.return_address = after.return_address = 0x44;
+    if (level < 2) {
+        steps("call: level 2 up", channel, plain(KIND_ERROR), pusher_stopped(after, PUSHER_RESERVED_CMD));
+        return;
+    }
+    after.return_address = 4;
+    after.subroutine = true;
+    after.get = 0x2000;
+    steps("The call command copies dma_get to subr_return", channel, plain(KIND_COMMAND), after);
+    channel.subroutine = true;
+    steps("If subr_active is already set: CALL, all else as before", channel, plain(KIND_ERROR),
+          pusher_stopped(advanced(channel), PUSHER_CALL));
+}
+
+static void test_return(uint32_t level)
+{
+    struct channel channel = reading(level, MODE_NV04, false);
+    struct channel after = advanced(channel);
+
+    scene.words[0] = 0x00020000;
+    channel.return_address = after.return_address = 0x44;
+    if (level < 2) {
+        steps("return: level 2 up", channel, plain(KIND_ERROR), pusher_stopped(after, PUSHER_RESERVED_CMD));
+        return;
+    }
+    steps("If subr_active isn't set: RETURN", channel, plain(KIND_ERROR),
+          pusher_stopped(after, PUSHER_RETURN));
+    channel.subroutine = true;
+    after.get = 0x44;
+    steps("The return command copies subr_return to dma_get", channel, plain(KIND_COMMAND), after);
+}
+
+/* "Jumps, call and return are NV04-style only." Also "dma_mget following it by the rule below": not where
+ * NOT_MAIN is set. */
+static void test_flow_in_ib(void)
+{
+    static const uint32_t words[] = {0x20000000, 0x00000001, 0x00000002, 0x00020000, 0x00000003, 0x80000000};
+
+    for (unsigned i = 0; i < 2 * sizeof words / sizeof words[0]; i++) {
+        struct channel channel = reading(5, MODE_IB, true);
+
+        channel.subroutine = i % 2 == 1;
+        channel.not_main = i % 2 == 1;
+        channel.dma_mget = 0x77;
+        scene.words[0] = words[i / 2];
+        steps("RESERVED_CMD in IB mode", channel, plain(KIND_ERROR),
+              pusher_stopped(advanced(channel), PUSHER_RESERVED_CMD));
+    }
+}
+
+/* ---- Methods ---- */
+
+/* "Present: 0x00 always; 0x10 to 0x24 at level 5; 0x50 from 1; 0x60 to 0x6c from 2; 0x80 from 3." As a row
+ * of bits, method 0 lowest, for levels 0 to 5. */
+static const uint64_t present[] = {0x1, 0x100001, 0xf100001, 0x10f100001, 0x10f100001, 0x10f1003f1};
+
+static void test_present(uint32_t level)
+{
+    for (uint32_t number = 0; number < 0x100; number += 4) {
+        struct channel channel = taking(level, number, 0x100);
+        struct answer answer;
+
+        channel.dma_semaphore = 1;
+        channel.offset_valid = true;
+        if (present[level] >> number / 4 & 1) {
+            answer = model_step(&channel, &scene.lent);
+            check(answer.kind != KIND_ERROR && answer.method == number && channel.count == 1, "Present",
+                  level, 0);
+            continue;
+        }
+        steps("A method below 0x100 that the level lacks is NON_CACHE; count and method stay", channel,
+              plain(KIND_ERROR), pusher_stopped(advanced(channel), PUSHER_NON_CACHE));
+    }
+}
+
+/* "A method below 0x100 that the level lacks is NON_CACHE, tested before SLI discard." "If SLI is enabled
+ * and not active, the method is discarded." */
+static void test_discard(uint32_t level, uint32_t mode)
+{
+    static const uint32_t numbers[] = {0x00, 0x50, 0x60, 0x64, 0x68, 0x6c, 0x80, 0x100, 0x180, 0x1ffc};
+    struct channel channel;
+
+    for (unsigned i = 0; i < sizeof numbers / sizeof numbers[0]; i++) {
+        channel = reading(level, mode, true);
+        channel.sli_active = false;
+        channel.count = 0xffffff;
+        channel.subchannel = 5;
+        channel.method = numbers[i] / 4;
+        scene.words[0] = 0xdeadbeef;
+        steps("the method is discarded", channel, method(KIND_DISCARD, 5, numbers[i], 0xdeadbeef),
+              submitted(channel));
+    }
+    channel.method = 0x54 / 4;
+    steps("NON_CACHE, tested before SLI discard", channel, plain(KIND_ERROR),
+          pusher_stopped(advanced(channel), PUSHER_NON_CACHE));
+}
+
+/* "an increasing method then rises by one modulo 2,048": also where the puller fails or SLI discards. */
+static void test_increasing(void)
+{
+    struct channel channel = taking(3, 0x50, 7);
+    struct channel after;
+
+    channel.increasing = true;
+    after = submitted(channel);
+    after.ref = 7;
+    check(after.method == 0x54 / 4, "by one", 3, 0);
+    steps("an increasing method then rises by one", channel, method(KIND_REF, 3, 0x50, 7), after);
+    channel.method = 0x1ffc / 4;
+    after = submitted(channel);
+    after.method = 0;
+    after.last_engine = 19;
+    steps("modulo 2,048", channel, method(KIND_FORWARD, 3, 0x1ffc, 7), after);
+    channel.engines[3] = after.engines[3] = 0;
+    after.last_engine = 17;
+    steps("the pusher keeps count and method at a puller error", channel, plain(KIND_ERROR),
+          puller_stopped(after, PULLER_EMPTY_SUBCHANNEL));
+    channel.sli_active = after.sli_active = false;
+    steps("with SLI off sli_active has no effect", channel, plain(KIND_ERROR),
+          puller_stopped(after, PULLER_EMPTY_SUBCHANNEL));
+    channel.setup.setting.sli = after.setup.setting.sli = true;
+    steps("a discarded method rises too", channel, method(KIND_DISCARD, 3, 0x1ffc, 7), after);
+}
+
+/* "An increasing run from 0x1ffc taken as ending there: its second parameter goes to method 0 and binds." */
+static void test_wrap(void)
+{
+    struct channel channel = taking(0, 0x1ffc, 7);
+    struct channel after;
+
+    channel.increasing = true;
+    scene.words[1] = 0x100;
+    check(model_step(&channel, &scene.lent).kind == KIND_FORWARD, "0x1ffc", 0, 0);
+    after = channel;
+    after.get = 8;
+    after.count = 0;
+    after.method = 1;
+    after.engines[3] = after.last_engine = 5;
+    steps("its second parameter goes to method 0 and binds", channel, method(KIND_BIND, 3, 0, 0xa0), after);
+}
+
+/* ---- IB entries ---- */
+
+/* A channel that is about to read entry 0 of four. */
+static struct channel fetching(uint64_t entry)
+{
+    struct channel channel = at(4, MODE_IB, false);
+
+    channel.get = channel.put = 0x40;
+    channel.ib_put = 3;
+    channel.dma_mget = 0x77;
+    scene.entries[0] = entry;
+    return channel;
+}
+
+static void test_entries(void)
+{
+    struct channel channel = fetching(UINT64_C(0x00000e0000001000));
+    struct channel after = channel;
+
+    after.ib_get = 1;
+    after.get = 0x1000;
+    after.put = 0x100c;
+    after.not_main = true;
+    steps("Entry 0x00000e0000001000: address 0x1000, size 3, NOT_MAIN", channel, plain(KIND_ENTRY), after);
+    scene.entries[0] |= UINT64_C(0x10000000003);
+    steps("bits 0, 1, 40 ignored", channel, plain(KIND_ENTRY), after);
+
+    scene.entries[0] = UINT64_C(0xfffffcfffffffffc);
+    channel.not_main = true;
+    after.not_main = false;
+    after.get = after.dma_mget = UINT64_C(0xfffffffffc);
+    after.put = UINT64_C(0xfffff8);
+    steps("Put is address plus 4 times size modulo 2^40; dma_mget takes the address", channel,
+          plain(KIND_ENTRY), after);
+    channel.dma_mget_valid = after.dma_mget_valid = true;
+    steps("an entry leaves the valid flag", channel, plain(KIND_ENTRY), after);
+}
+
+static void test_entry_indices(void)
+{
+    struct channel channel = fetching(0);
+    struct channel after = channel;
+
+    scene.entries[3] = UINT64_C(0x400) << 32 | 8;
+    channel.ib_get = 3;
+    channel.ib_put = after.ib_put = 1;
+    after.get = after.dma_mget = 8;
+    after.put = 12;
+    steps("ib_get rises by 1 modulo 2^ib_order", channel, plain(KIND_ENTRY), after);
+    scene.lent.entry_count = 3;
+    steps("An index past the lent entries is PROTECTION and ib_get stays", channel, plain(KIND_ERROR),
+          pusher_stopped(channel, PUSHER_PROTECTION));
+    channel.ib_get = 2;
+    after = channel;
+    after.ib_get = 3;
+    scene.entries[2] = UINT64_C(0x300) << 32 | 0xffffffff;
+    steps("Size 0: error IB after that rise, nothing else changes", channel, plain(KIND_ERROR),
+          pusher_stopped(after, PUSHER_IB));
+}
+
+/* "each advance copies the read address to it and sets its valid flag. NV04-style leaves it." */
+static void test_mget(void)
+{
+    struct channel channel = reading(4, MODE_IB, false);
+    struct channel after = channel;
+
+    channel.dma_mget = after.dma_mget = 0x77;
+    after.get = after.dma_mget = 4;
+    after.dma_mget_valid = true;
+    steps("each advance copies the read address to it", channel, plain(KIND_COMMAND), after);
+    channel.not_main = after.not_main = true;
+    after.dma_mget = 0x77;
+    after.dma_mget_valid = false;
+    steps("not where NOT_MAIN is set", channel, plain(KIND_COMMAND), after);
+
+    channel = reading(4, MODE_NV04, false);
+    channel.dma_mget = 0x77;
+    after = channel;
+    after.get = 4;
+    steps("NV04-style leaves it", channel, plain(KIND_COMMAND), after);
+}
+
+/* A long form whose count word and parameters come by other entries. */
+static void test_entry_ends(void)
+{
+    static const uint32_t kinds[] = {KIND_ENTRY, KIND_COMMAND, KIND_ENTRY, KIND_COUNT,
+                                     KIND_ENTRY, KIND_REF,     KIND_REF,   KIND_IDLE};
+    struct channel channel = at(4, MODE_IB, false);
+
+    scene.words[0] = 0x00030050;
+    scene.words[1] = 2;
+    scene.words[2] = 33;
+    scene.words[3] = 34;
+    scene.entries[0] = UINT64_C(0x400) << 32;
+    scene.entries[1] = UINT64_C(0x400) << 32 | 4;
+    scene.entries[2] = UINT64_C(0x800) << 32 | 8;
+    check(model_set_put(&channel, 3) == REFUSAL_NONE, "three entries", 4, MODE_IB);
+    for (unsigned i = 0; i < sizeof kinds / sizeof kinds[0]; i++)
+        check(model_step(&channel, &scene.lent).kind == kinds[i], "a command goes on over an entry's end", 4,
+              MODE_IB);
+    check(channel.ref == 34, "the last parameter", 4, MODE_IB);
+}
+
+/* ---- The puller ---- */
+
+/* One parameter of a method is taken; `after` is the channel with what the puller changes, as yet without
+ * the pusher's part. */
+static void pulls(const char *sentence, struct channel before, uint32_t kind, uint32_t parameter,
+                  struct channel after)
+{
+    steps(sentence, before, method(kind, before.subchannel, 4 * before.method, parameter), submitted(after));
+}
+
+/* The puller refuses a parameter: nothing but the stop and the pusher's part. */
+static void fails(const char *sentence, struct channel before, uint32_t error)
+{
+    steps(sentence, before, plain(KIND_ERROR), puller_stopped(submitted(before), error));
+}
+
+static void test_bind(uint32_t level)
+{
+    struct channel channel = taking(level, 0x00, 0x100);
+    struct channel after = channel;
+
+    after.engines[3] = after.last_engine = 5;
+    pulls("lookup takes the lowest matching entry, bind the engine", channel, KIND_BIND, 0xa0, after);
+    scene.words[0] = 0x600;
+    after.engines[3] = after.last_engine = 8;
+    pulls("engine (bits 4-0)", channel, KIND_BIND, 0xa5, after);
+    scene.words[0] = 0x200;
+    after = channel;
+    after.engines[3] = 0;
+    steps("Engine 0 is SOFTWARE: the binding is stored, then EMPTY_SUBCHANNEL", channel, plain(KIND_ERROR),
+          puller_stopped(submitted(after), PULLER_EMPTY_SUBCHANNEL));
+    scene.words[0] = 0xa0;
+    fails("none is CACHE_ERROR NO_HASH", channel, PULLER_NO_HASH);
+    scene.words[0] = 0x700;
+    scene.lent.table_count = 24;
+    fails("an entry that isn't lent", channel, PULLER_NO_HASH);
+    scene.lent.table_count = 0;
+    fails("an empty table", channel, PULLER_NO_HASH);
+}
+
+static void test_forward(uint32_t level)
+{
+    static const uint32_t numbers[] = {0x100, 0x17c, 0x180, 0x1fc, 0x200, 0x1ffc};
+
+    for (unsigned i = 0; i < sizeof numbers / sizeof numbers[0]; i++) {
+        bool looks = numbers[i] >= 0x180 && numbers[i] <= 0x1fc;
+        struct channel channel = taking(level, numbers[i], 0x300);
+        struct channel after = channel;
+
+        after.last_engine = 19;
+        pulls("for 0x180 to 0x1fc the parameter becomes the looked-up address", channel, KIND_FORWARD,
+              looks ? 0xa2 : 0x300, after);
+        channel.engines[3] = 0;
+        fails("Engine 0: EMPTY_SUBCHANNEL", channel, PULLER_EMPTY_SUBCHANNEL);
+        scene.words[0] = 0x301;
+        fails("the lookup comes first", channel, looks ? PULLER_NO_HASH : PULLER_EMPTY_SUBCHANNEL);
+    }
+}
+
+static void test_ref_and_events(uint32_t level)
+{
+    struct channel channel = taking(level, 0x50, 0xfffffffe);
+    struct channel after = channel;
+
+    after.ref = 0xfffffffe;
+    if (level >= 1)
+        pulls("0x50: ref takes the parameter", channel, KIND_REF, 0xfffffffe, after);
+    channel.method = 0x80 / 4;
+    if (level >= 3)
+        pulls("0x80: an event, no effect", channel, KIND_EVENT, 0xfffffffe, channel);
+    for (uint32_t number = 0x10; level >= 5 && number <= 0x24; number += 4) {
+        channel.method = number / 4;
+        pulls("0x10 to 0x24: an event, no effect", channel, KIND_EVENT, 0xfffffffe, channel);
+    }
+}
+
+static void test_dma(uint32_t level)
+{
+    static const uint32_t handles[] = {0x300, 0x400, 0x500, 0x100, 0x600, 0x700};
+    static const uint32_t addresses[] = {0xa2, 0xa3, 0xa4, 0xa0, 0xa5, 0};
+
+    for (unsigned i = 0; i < sizeof handles / sizeof handles[0]; i++) {
+        struct channel channel = taking(level, 0x60, handles[i]);
+        struct channel after = channel;
+
+        channel.dma_semaphore = 0xee;
+        after.dma_semaphore = addresses[i];
+        if (level < 4 && i < 3)
+            fails("class not 2, not write-only or page table absent: SEMAPHORE 1", channel,
+                  PULLER_SEMAPHORE_1);
+        else
+            pulls("The address is stored", channel, KIND_DMA, addresses[i], after);
+        scene.words[0] = 0x30002;
+        fails("0x60: lookup", channel, PULLER_NO_HASH);
+    }
+}
+
+static void test_offset(uint32_t level)
+{
+    static const struct {
+        uint32_t offset;
+        uint32_t before_nv50;
+        uint32_t from_nv50;
+    } rows[] = {
+        {0, 0, 0},
+        {0xffc, 0, 0},
+        {0x001, PULLER_SEMAPHORE_1, PULLER_SEMAPHORE_1},
+        {0x002, PULLER_SEMAPHORE_1, PULLER_SEMAPHORE_1},
+        {0x1000, PULLER_SEMAPHORE_1, 0},
+        {0xfffc, PULLER_SEMAPHORE_1, 0},
+        {0xffff, PULLER_SEMAPHORE_1, PULLER_SEMAPHORE_1},
+        {0x10000, PULLER_SEMAPHORE_1, PULLER_SEMAPHORE_3},
+        {0x10001, PULLER_SEMAPHORE_1, PULLER_SEMAPHORE_1},
+        {0x80000000, PULLER_SEMAPHORE_1, PULLER_SEMAPHORE_3},
+        {0xffffffff, PULLER_SEMAPHORE_1, PULLER_SEMAPHORE_1},
+    };
+
+    for (unsigned i = 0; i < sizeof rows / sizeof rows[0]; i++) {
+        uint32_t error = level < 4 ? rows[i].before_nv50 : rows[i].from_nv50;
+        struct channel channel = taking(level, 0x64, rows[i].offset);
+        struct channel after = channel;
+
+        channel.semaphore_offset = 0x44;
+        after.semaphore_offset = rows[i].offset;
+        after.offset_valid = level >= 4;
+        if (error != 0)
+            fails("0x64: SEMAPHORE 1 and 3", channel, error);
+        else
+            pulls("stored, and from 4 valid", channel, KIND_OFFSET, rows[i].offset, after);
+    }
+}
+
+/* A channel about to acquire or release the value 11 at semaphore word 1, bound and valid. The offset is
+ * "rounded down". */
+static struct channel semaphoring(uint32_t level, uint32_t number)
+{
+    struct channel channel = taking(level, number, 11);
+
+    channel.semaphore_offset = 7;
+    channel.dma_semaphore = level < 4 ? 1 : 0;
+    channel.offset_valid = level >= 4;
+    return channel;
+}
+
+static void test_semaphore_errors(uint32_t level, uint32_t number)
+{
+    uint32_t past = level < 4 ? PULLER_SEMAPHORE_2 : PULLER_SEMAPHORE_4;
+    struct channel channel = semaphoring(level, number);
+
+    scene.lent.semaphore_count = 1;
+    fails("Past its end: SEMAPHORE 2 below level 4, 4 from there", channel, past);
+    channel.semaphore_offset = UINT32_MAX;
+    fails("Past its end, far", channel, past);
+    channel.dma_semaphore = level < 4 ? 0 : 1;
+    channel.offset_valid = level < 4;
+    fails("below level 4 unbound, from 4 offset not valid: SEMAPHORE 2", channel, PULLER_SEMAPHORE_2);
+}
+
+static void test_acquire(uint32_t level)
+{
+    struct channel channel = semaphoring(level, 0x68);
+    struct channel after = channel;
+
+    scene.lent.semaphore_count = 2;
+    pulls("Acquire goes on when equal", channel, KIND_ACQUIRE, 11, channel);
+    for (uint32_t value = 10; value <= 12; value += 2) {
+        scene.words[0] = value;
+        after.acquire_active = true;
+        after.acquire_value = value;
+        pulls("else is active and waits, its value stored", channel, KIND_WAIT, value, after);
+    }
+    test_semaphore_errors(level, 0x68);
+}
+
+static void test_release(uint32_t level)
+{
+    struct channel channel = semaphoring(level, 0x6c);
+
+    scene.lent.semaphore_count = 2;
+    scene.words[0] = 0xfeedf00d;
+    scene.expected[1] = 0xfeedf00d;
+    pulls("Release writes that word only", channel, KIND_RELEASE, 0xfeedf00d, channel);
+    test_semaphore_errors(level, 0x6c);
+}
+
+/* "A retry makes only the end test and the comparison; equal clears active." So at any level, neither bound
+ * nor valid. */
+static void test_retry(uint32_t level)
+{
+    struct channel channel = taking(level, 0x50, 7);
+    struct channel after;
+
+    channel.acquire_active = true;
+    channel.acquire_value = 11;
+    channel.semaphore_offset = 7;
+    after = channel;
+    after.acquire_active = false;
+    scene.lent.semaphore_count = 2;
+    steps("equal clears active", channel, plain(KIND_ACQUIRE), after);
+    for (uint32_t value = 10; value <= 12; value += 2) {
+        channel.acquire_value = value;
+        steps("unequal waits", channel, plain(KIND_WAIT), channel);
+    }
+    scene.lent.semaphore_count = 1;
+    steps("a retry has no advance and stays active", channel, plain(KIND_ERROR),
+          puller_stopped(channel, level < 4 ? PULLER_SEMAPHORE_2 : PULLER_SEMAPHORE_4));
+}
+
+/* ---- The printed example ---- */
+
+static const char *const kind_names[] = {"",      "command", "count",   "bind",    "ref",    "event",
+                                         "dma",   "offset",  "acquire", "release", "wait",   "forward",
+                                         "error", "entry",   "discard", "idle",    "stopped"};
+
+/* The line that the paper's program prints for a step. */
+static int print_step(char *out, size_t room, unsigned step, uint64_t get, struct answer answer)
+{
+    int length = snprintf(out, room, "step=%u get=%" PRIu64 " kind=%s", step, get, kind_names[answer.kind]);
+
+    if (answer.fields)
+        length += snprintf(out + length, room - (size_t)length, " subc=%u mthd=%u param=%u",
+                           answer.subchannel, answer.method, answer.parameter);
+    return length + snprintf(out + length, room - (size_t)length, "\n");
+}
+
+static void test_printed(void)
+{
+    static const uint32_t words[] = {0x00040050, 0x00000007};
+    static uint32_t semaphores[1024];
+    static const char printed[] = "step=1 get=0 kind=command\n"
+                                  "step=2 get=4 kind=ref subc=0 mthd=80 param=7\n"
+                                  "end=idle steps=2 get=8 ref=7\n";
+    struct setup setup = {{3, MODE_NV04, false}, 0, UINT32_MAX, 0};
+    struct lent lent = {words, 2, NULL, 0, NULL, 0, semaphores, 1024};
+    struct channel channel;
+    char text[256];
+    int length = 0;
+
+    model_open(&channel, setup, NULL, 0);
+    check(model_set_put(&channel, 8) == REFUSAL_NONE, "put at the end", 3, 0);
+    for (unsigned step = 1; step <= 2; step++) {
+        uint64_t get = channel.get;
+        struct answer answer = model_step(&channel, &lent);
+
+        length += print_step(text + length, sizeof text - (size_t)length, step, get, answer);
+    }
+    check(model_step(&channel, &lent).kind == KIND_IDLE, "a further step is idle", 3, 0);
+    snprintf(text + length, sizeof text - (size_t)length, "end=idle steps=2 get=%" PRIu64 " ref=%u\n",
+             channel.get, channel.ref);
+    check(strcmp(text, printed) == 0, "it prints exactly", 3, 0);
+}
+
+/* ---- STATE, read a second time ---- */
+
+/* The widths that are the same in both modes. */
+static const struct {
+    unsigned at;
+    unsigned width;
+} widths[] = {
+    {AT_COUNT, 24}, {AT_SLI_MASK, 12}, {AT_METHOD, 11}, {AT_LAST_ENGINE, 5}, {AT_SUBCHANNEL, 3},
+};
+
+static bool widths_hold(const struct record *record)
+{
+    for (unsigned i = 0; i < sizeof widths / sizeof widths[0]; i++)
+        if (record->word[widths[i].at] >> widths[i].width != 0)
+            return false;
+    for (unsigned i = 0; i < SUBCHANNELS; i++)
+        if (record->word[AT_ENGINES + i] >> 5 != 0)
+            return false;
+    return true;
+}
+
+static bool combination_holds(const struct record *record)
+{
+    uint32_t level = record->word[AT_LEVEL];
+    uint32_t mode = record->word[AT_MODE];
+    uint32_t order = record->word[AT_IB_ORDER];
+
+    if (level > 5 || mode > 1 || (record->word[AT_SLI] != 0 && level < 3))
+        return false;
+    return mode == MODE_NV04 ? order == 0 : level >= 4 && order <= 12;
+}
+
+/* Whether the paper lets a channel step, by its words: to be asked where the combination holds. */
+static bool addresses_hold(const struct record *record)
+{
+    bool ib = record->word[AT_MODE] == MODE_IB;
+    uint32_t places = UINT32_C(1) << record->word[AT_IB_ORDER];
+    uint32_t high = record->word[AT_GET + 1] | record->word[AT_PUT + 1] | record->word[AT_DMA_MGET + 1];
+    uint32_t low = record->word[AT_GET] | record->word[AT_PUT] | record->word[AT_RETURN_ADDRESS];
+
+    return high >> (ib ? 8 : 0) == 0 && low % 4 == 0 && record->word[AT_IB_GET] < places &&
+           record->word[AT_IB_PUT] < places;
+}
+
+static bool holds(const struct record *record)
+{
+    return combination_holds(record) && widths_hold(record) && addresses_hold(record);
+}
+
+/* A record that holds, or nearly: a channel that was opened, with up to five words drawn anew. */
+static struct record draw_record(struct draw *draw)
+{
+    struct setting setting = draw_setting(draw);
+    uint32_t order = setting.mode == MODE_IB ? draw_below(draw, 13) : 0;
+    struct channel channel = at(setting.level, setting.mode, setting.sli);
+    struct record record = record_of(&channel);
+
+    record.word[AT_IB_ORDER] = order;
+    for (uint32_t changes = draw_below(draw, 6); changes > 0; changes--) {
+        uint32_t place = draw_below(draw, CHANNEL_WORDS);
+        uint32_t number = draw_number(draw);
+
+        record.word[place] = number >> draw_below(draw, 32);
+    }
+    return record;
+}
+
+/* STATE exactly where the widths and combinations don't hold; no refusal changes channel or memory. */
+static void test_state(struct draw *draw)
+{
+    struct record record = draw_record(draw);
+    const struct channel before = channel_of(&record);
+    struct setting setting = before.setup.setting;
+    struct channel channel = before;
+    uint32_t refusal = model_step(&channel, &scene.lent).refusal;
+    uint32_t put = draw_number(draw);
+
+    check((refusal == REFUSAL_STATE) == !holds(&record), "STATE of a step", setting.level, setting.mode);
+    if (refusal != REFUSAL_NONE)
+        check(same_channel(&channel, &before) &&
+                  memcmp(scene.semaphores, scene.expected, sizeof scene.expected) == 0,
+              "a refused step", setting.level, setting.mode);
+    channel = before;
+    refusal = model_set_put(&channel, put >> draw_below(draw, 32));
+    check((refusal == REFUSAL_STATE) == !holds(&record), "STATE of put", setting.level, setting.mode);
+    if (refusal != REFUSAL_NONE)
+        check(same_channel(&channel, &before), "a refused put", setting.level, setting.mode);
+}
+
+/* ---- Runs at random ---- */
+
+enum { POOL = 24 };
+
+/* Pools of which the last words are lent, so that a sanitizer sees a read past the end. */
+static uint32_t word_pool[POOL];
+static uint64_t entry_pool[POOL];
+static uint32_t table_pool[POOL];
+static uint32_t semaphore_pool[POOL];
+
+static struct lent draw_lent(struct draw *draw)
+{
+    size_t words = POOL - draw_below(draw, 3);
+    size_t entries = POOL - draw_below(draw, 3);
+    size_t table = POOL - (draw_below(draw, 8) == 0 ? draw_below(draw, 8) : 0);
+    size_t semaphores = POOL - (draw_below(draw, 8) == 0 ? draw_below(draw, POOL) : 0);
+
+    return (struct lent){word_pool + POOL - words,  words, entry_pool + POOL - entries,        entries,
+                         table_pool + POOL - table, table, semaphore_pool + POOL - semaphores, semaphores};
+}
+
+/* A word of a run: mostly commands with methods that do something, small numbers, jumps within the pool. */
+static uint32_t draw_run_word(struct draw *draw)
+{
+    static const uint32_t numbers[] = {0x00, 0x50, 0x60, 0x64, 0x68, 0x6c, 0x80, 0x10, 0x100, 0x180, 0x1ffc};
+    uint32_t choice = draw_below(draw, 8);
+    uint32_t count = draw_below(draw, 3) << 18;
+    uint32_t subchannel = draw_below(draw, 2) << 13;
+    uint32_t number = numbers[draw_below(draw, sizeof numbers / sizeof numbers[0])];
+    uint32_t target = 4 * draw_below(draw, POOL);
+
+    if (choice < 4)
+        return count | subchannel | number | draw_below(draw, 2) << 30;
+    if (choice < 6)
+        return draw_below(draw, 8);
+    if (choice == 6)
+        return target | draw_below(draw, 3);
+    return draw_word(draw);
+}
+
+static void draw_pools(struct draw *draw)
+{
+    for (unsigned i = 0; i < POOL; i++) {
+        uint64_t address = 4 * draw_below(draw, POOL);
+        uint64_t size = draw_below(draw, 6);
+        uint64_t not_main = draw_below(draw, 2);
+
+        word_pool[i] = draw_run_word(draw);
+        entry_pool[i] = size << 42 | not_main << 41 | address;
+        table_pool[i] = i % 4 == 3 ? 0x30002 : draw_below(draw, 8);
+        semaphore_pool[i] = draw_below(draw, 8);
+    }
+}
+
+/* At most the semaphore word of a release is another than before. */
+static void check_memory(const uint32_t *before, const struct lent *lent, uint32_t offset,
+                         struct answer answer)
+{
+    size_t first = POOL - lent->semaphore_count;
+
+    for (size_t i = 0; i < POOL; i++) {
+        bool written = answer.kind == KIND_RELEASE && i == first + offset / 4;
+
+        check(semaphore_pool[i] == (written ? answer.parameter : before[i]), "no semaphore word changes", 0,
+              0);
+    }
+}
+
+static bool is_stopped(const struct channel *channel)
+{
+    return channel->pusher_error != 0 || channel->puller_error != 0;
+}
+
+static bool same_setup(const struct channel *before, const struct channel *after)
+{
+    struct record first = record_of(before);
+    struct record second = record_of(after);
+
+    return memcmp(first.word, second.word, AT_GET * sizeof first.word[0]) == 0 &&
+           first.word[AT_SLI_MASK] == second.word[AT_SLI_MASK];
+}
+
+/* What every step keeps, whatever it does. */
+static void check_kept(const struct channel *before, const struct channel *after, struct answer answer)
+{
+    struct setting setting = before->setup.setting;
+    bool quiet = answer.refusal != 0 || answer.kind == KIND_STOPPED || answer.kind == KIND_IDLE;
+    bool ib = setting.mode == MODE_IB;
+
+    check(answer.refusal == REFUSAL_NONE || answer.refusal == REFUSAL_TABLE, "never refused as STATE",
+          setting.level, setting.mode);
+    check(!quiet || same_channel(before, after), "nothing changes", setting.level, setting.mode);
+    check((answer.kind == KIND_STOPPED) == (is_stopped(before) && answer.refusal == 0), "stopped",
+          setting.level, setting.mode);
+    check((answer.kind == KIND_ERROR) == (!is_stopped(before) && is_stopped(after)), "an error stops",
+          setting.level, setting.mode);
+    check(same_setup(before, after), "the set-up stays", setting.level, setting.mode);
+    check(before->ib_put == after->ib_put && (ib || before->put == after->put), "put stays", setting.level,
+          setting.mode);
+    check(ib ? !after->subroutine : !after->dma_mget_valid && after->ib_get == 0, "the other mode's part",
+          setting.level, setting.mode);
+}
+
+/* Put is refused by its own rule alone. */
+static void run_put(struct draw *draw, struct channel *channel)
+{
+    struct setting setting = channel->setup.setting;
+    uint32_t put = draw_below(draw, 4 * POOL + 8);
+    bool wrong = setting.mode == MODE_IB ? put >> channel->setup.ib_order != 0 : put % 4 != 0;
+    struct channel before = *channel;
+    uint32_t refusal = model_set_put(channel, put);
+
+    check(refusal == (wrong ? REFUSAL_PUT : REFUSAL_NONE), "PUT and no other refusal", setting.level,
+          setting.mode);
+    check(!wrong || same_channel(&before, channel), "a refused put", setting.level, setting.mode);
+}
+
+static void run_step(struct draw *draw, struct channel *channel)
+{
+    uint32_t semaphores[POOL];
+    struct lent lent = draw_lent(draw);
+    struct channel before = *channel;
+    struct answer answer;
+
+    memcpy(semaphores, semaphore_pool, sizeof semaphores);
+    answer = model_step(channel, &lent);
+    check_kept(&before, channel, answer);
+    check_memory(semaphores, &lent, before.semaphore_offset, answer);
+}
+
+/* A channel as opening leaves it, also a refused one, over puts and steps, each with its own lent memory. */
+static void test_run(struct draw *draw)
+{
+    struct setup setup = {draw_setting(draw), 0, 0, 0};
+    struct channel channel;
+
+    setup.ib_order = draw_below(draw, 6);
+    setup.dma_limit = draw_below(draw, 4) == 0 ? draw_below(draw, 4 * POOL) : UINT32_MAX;
+    setup.sli_mask = draw_below(draw, 4200);
+    draw_pools(draw);
+    model_open(&channel, setup, NULL, 0);
+    run_put(draw, &channel);
+    for (unsigned i = 0; i < 60; i++) {
+        if (draw_below(draw, 8) == 0)
+            run_put(draw, &channel);
+        run_step(draw, &channel);
+    }
+}
+
+/* ---- The program ---- */
+
+static void test_nv04(uint32_t level)
+{
+    test_protection(level, MODE_NV04);
+    test_jumps(level);
+    test_call(level);
+    test_return(level);
+    test_present(level);
+}
+
+static void test_puller(uint32_t level)
+{
+    test_bind(level);
+    test_forward(level);
+    test_ref_and_events(level);
+    test_retry(level);
+    if (level < 2)
+        return;
+    test_dma(level);
+    test_offset(level);
+    test_acquire(level);
+    test_release(level);
+}
+
+static void test_ib(uint32_t level)
+{
+    test_step_order(level);
+    test_protection(level, MODE_IB);
+    test_conditional(level, MODE_IB);
+    test_discard(level, MODE_IB);
+}
+
+/* The cases that each level or mode has. */
+static void test_levels(void)
+{
+    for (uint32_t mode = MODE_NV04; mode <= MODE_IB; mode++) {
+        test_addresses(mode);
+        test_roles(mode);
+        test_method_commands(mode);
+    }
+    for (uint32_t level = 0; level <= 5; level++) {
+        test_nv04(level);
+        test_puller(level);
+        if (level >= 3) {
+            test_conditional(level, MODE_NV04);
+            test_discard(level, MODE_NV04);
+        }
+        if (level >= 4)
+            test_ib(level);
+    }
+}
+
+int main(void)
+{
+    struct draw draw = {0x000c};
+
+    test_opening();
+    test_repeats();
+    test_put();
+    test_step_refusals();
+    test_protection_far();
+    test_levels();
+    test_long();
+    test_flow_in_ib();
+    test_increasing();
+    test_wrap();
+    test_entries();
+    test_entry_indices();
+    test_mget();
+    test_entry_ends();
+    test_printed();
+    for (unsigned i = 0; i < 100000; i++)
+        test_state(&draw);
+    for (unsigned i = 0; i < 5000; i++)
+        test_run(&draw);
+    printf("channel model: %" PRIu64 " checks\n", checks);
+    return 0;
+}
