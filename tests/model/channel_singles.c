@@ -711,7 +711,8 @@ static void put_tables(struct vectors *vectors)
     }
 }
 
-/* "Step: 13, 8, 5." Each of the three wrong or not; of the sizes either. Few, as the memory is large. */
+/* "Step: 13, 8, 5." Each of the three wrong or not; of the sizes either, one at a time, since the program that
+ * runs the vectors has room for one such memory. Few, as it is large. */
 static void put_orders(struct vectors *vectors)
 {
     for (uint32_t i = 0; i < 2 * 2 * 2 * 2; i++) {
@@ -719,8 +720,10 @@ static void put_orders(struct vectors *vectors)
         struct single single = i & 8 ? draw_ill_formed(draw, draw_below(draw, breach_count()), BREACH_NEAR)
                                      : draw_release(draw);
 
-        single.lens.words = i & 1 ? SIZE_LIMIT + 1 : SIZE_LIMIT;
-        single.lens.semaphores = i & 2 ? SIZE_LIMIT + 1 : SIZE_LIMIT;
+        if (i & 1)
+            single.lens.words = i & 2 ? SIZE_LIMIT + 1 : SIZE_LIMIT;
+        else
+            single.lens.semaphores = i & 2 ? SIZE_LIMIT + 1 : SIZE_LIMIT;
         single.lens.table = i & 4 ? 4097 : 0;
         put_single(vectors, &single);
     }

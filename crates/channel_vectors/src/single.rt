@@ -37,9 +37,9 @@ fn of(header: u32, operation: u32) -> Difference {
     unknown(number)
 }
 
-// One step. The stack has room for one pool of the most words and one more, and not for two. So the
-// longer of the two that are lent is in the large one, and of the other the small one lends what it
-// has: all, but where both are longer than that. (No answer of such a record depends on the rest.)
+// One step. The stack, of 8 MB, has room for one pool of 1,048,577 words and not for two. So the longer
+// of words and semaphores is lent from the large pool, and the other from the small one: no record
+// lends more than that has of both.
 pub(crate) fn single(
     small: &mut [u32],
     large: &mut [u32],

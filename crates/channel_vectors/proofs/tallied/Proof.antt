@@ -5,6 +5,7 @@ use borrow.Author.Needs.{needs}
 use Rattle.channel_vectors.proofs.tallied.Statement.{statement}
 use Rattle.channel_vectors.proofs.tallied.Tie as tie
 
+-- the pools keep their lengths
 abbrev Inv-loop : tie.InvT-loop
 Inv-loop small₀ large₀ entries₀ table₀ tally₀ counter₀ small large entries table tally counter = (length small ≡ length small₀) × (length large ≡ length large₀) × (length entries ≡ length entries₀) × (length table ≡ length table₀)
 

@@ -5,6 +5,7 @@ use borrow.Author.Needs.{needs}
 use Rattle.channel_vectors.proofs.model.first_of.Statement.{statement}
 use Rattle.channel_vectors.proofs.model.first_of.Tie as tie
 
+-- the array keeps its length
 abbrev Inv-loop : tie.InvT-loop
 Inv-loop semaphores memory₀ i₀ memory i = length memory ≡ 64
 

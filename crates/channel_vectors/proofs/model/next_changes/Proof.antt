@@ -5,6 +5,7 @@ use borrow.Author.Needs.{needs}
 use Rattle.channel_vectors.proofs.model.next_changes.Statement.{statement}
 use Rattle.channel_vectors.proofs.model.next_changes.Tie as tie
 
+-- the pool keeps its length
 abbrev Inv-loop : tie.InvT-loop
 Inv-loop semaphores₀ count changed₀ counter₀ semaphores changed counter = length semaphores ≡ length semaphores₀
 

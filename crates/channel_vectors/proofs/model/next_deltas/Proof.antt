@@ -1,10 +1,9 @@
 use Prim.Native.Nat.{_-_}
-use mathlib.Core.Path.{_≡_}
-use lib.ListN.{length}
 use borrow.Author.Needs.{needs}
 use Rattle.channel_vectors.proofs.model.next_deltas.Statement.{statement}
 use Rattle.channel_vectors.proofs.model.next_deltas.Tie as tie
 
+-- nothing has to hold from turn to turn
 abbrev Inv-loop : tie.InvT-loop
 Inv-loop count model₀ counter₀ model counter = Unit {0}
 

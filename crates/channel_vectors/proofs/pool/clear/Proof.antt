@@ -5,6 +5,7 @@ use borrow.Author.Needs.{needs}
 use Rattle.channel_vectors.proofs.pool.clear.Statement.{statement}
 use Rattle.channel_vectors.proofs.pool.clear.Tie as tie
 
+-- the pool keeps its length
 abbrev Inv-loop : tie.InvT-loop
 Inv-loop pool₀ i₀ pool i = length pool ≡ length pool₀
 

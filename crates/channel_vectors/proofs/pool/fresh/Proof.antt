@@ -5,6 +5,7 @@ use borrow.Author.Needs.{needs}
 use Rattle.channel_vectors.proofs.pool.fresh.Statement.{statement}
 use Rattle.channel_vectors.proofs.pool.fresh.Tie as tie
 
+-- the pool keeps its length
 abbrev Inv-loop : tie.InvT-loop
 Inv-loop table₀ i₀ table i = length table ≡ length table₀
 

@@ -5,6 +5,7 @@ use borrow.Author.Needs.{needs}
 use Rattle.channel_vectors.proofs.pool.load_over.Statement.{statement}
 use Rattle.channel_vectors.proofs.pool.load_over.Tie as tie
 
+-- the pool keeps its length
 abbrev Inv-loop : tie.InvT-loop
 Inv-loop pool₀ count i₀ pool i = length pool ≡ length pool₀
 

@@ -5,6 +5,7 @@ use borrow.Author.Needs.{needs}
 use Rattle.channel_vectors.proofs.run.operations.Statement.{statement}
 use Rattle.channel_vectors.proofs.run.operations.Tie as tie
 
+-- the pool keeps its length
 abbrev Inv-loop : tie.InvT-loop
 Inv-loop words entries table semaphores₀ progress₀ count counter₀ semaphores progress counter = length semaphores ≡ length semaphores₀
 

@@ -5,6 +5,7 @@ use borrow.Author.Needs.{needs}
 use Rattle.channel_vectors.proofs.single.swept.Statement.{statement}
 use Rattle.channel_vectors.proofs.single.swept.Tie as tie
 
+-- the pool keeps its length
 abbrev Inv-loop : tie.InvT-loop
 Inv-loop semaphores₀ lent found₀ end i₀ semaphores found i = length semaphores ≡ length semaphores₀
 

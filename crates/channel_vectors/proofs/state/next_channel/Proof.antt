@@ -5,6 +5,7 @@ use borrow.Author.Needs.{needs}
 use Rattle.channel_vectors.proofs.state.next_channel.Statement.{statement}
 use Rattle.channel_vectors.proofs.state.next_channel.Tie as tie
 
+-- the array keeps its length
 abbrev Inv-loop : tie.InvT-loop
 Inv-loop words₀ i₀ words i = length words ≡ 41
 
