@@ -28,7 +28,7 @@ use Rattle.channel.specs.Promises.{SetUp, PusherFits, WellFormed, Words,
 use Rattle.channel.specs.declared.record.Channel.{Channel}
 use Rattle.channel.specs.declared.opening.Opening.{Opening}
 use Rattle.channel.proofs.Refusals.{NoneOf, none-of, refused-one, put-agree, step-agree}
-use Rattle.channel.proofs.Opens.{zeros, opened-blank, opened-open, seven, open-first, open-agree}
+use Rattle.channel.proofs.OpensPlainly.{zeros, opened-blank, opened-open, seven, open-first, open-agree}
 use Rattle.channel.proofs.Keeping.{narrow-32, DidFits, pushed-fits, taken-fits, retried-fits}
 
 -- a channel at rest

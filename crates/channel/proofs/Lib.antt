@@ -7,6 +7,6 @@ pub mod Formed
 pub mod Refusals
 pub mod Said
 pub mod Keeping
-pub mod Opens
+pub mod OpensPlainly
 pub mod Kept
 pub mod Promises

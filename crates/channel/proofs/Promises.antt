@@ -52,7 +52,7 @@ use Rattle.channel.specs.declared.stepping.Answer.the-variants as answer
 use Rattle.channel.specs.declared.stepping.Stepped.{Stepped}
 use Rattle.channel.proofs.Formed.{formed, unformed}
 use Rattle.channel.proofs.Refusals.{refused-is, accepted-is, none-of, put-agree, step-agree}
-use Rattle.channel.proofs.Opens.{opened-answer, opened-blank, opened-open, open-plain, passed, duplicate-is, blank-is, fresh-is}
+use Rattle.channel.proofs.OpensPlainly.{opened-answer, opened-blank, opened-open, open-plain, passed, duplicate-is, blank-is, fresh-is}
 use Rattle.channel.proofs.Said.{step-first, act-tells, stopped-is, retry-is, move-is, submit-is}
 use Rattle.channel.proofs.Kept.{opened-formed, put-keeps, step-keeps}
 
