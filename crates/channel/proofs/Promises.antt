@@ -43,7 +43,7 @@ use Rattle.channel.specs.Opening.{freshChannel, opened, openingOf, openO
 use Rattle.channel.specs.Putting.{putCases, withPusher, withPut, unchanged, putOf}
 use Rattle.channel.specs.Stepping as stepping
 use Rattle.channel.specs.Contracts.{Puts, StepsTo}
-use Rattle.channel.specs.Promises.{WellFormed, openPlain, stepPlain, putPlain, Fresh, Blank, Refused, Accepted, One, Takable, Running, leaving, Sentences, Steps, NoOther, Later, same, put, step, Kept}
+use Rattle.channel.specs.Promises.{WellFormed, openPlain, stepPlain, putPlain, Fresh, Blank, Refused, Accepted, One, Takable, Running, leaving, Sentences, KeepsAdvance, Steps, NoOther, Later, same, put, step, Kept}
 use Rattle.channel.specs.declared.record.Channel.{Channel}
 use Rattle.channel.specs.declared.opening.Opening.{Opening}
 use Rattle.channel.specs.declared.opening.Opening.the-variants.{Open, Duplicate}
@@ -247,21 +247,32 @@ module _ (c : Channel) (ws es t sems exit : List ℕ) (r : Stepped) (h : StepsTo
 
   -- "Any puller error stops the channel; ... no semaphore word changes."
   module _ (fails : puller-record.number (r .channel .puller .error) ≡ 0 → ⊥) where
-    by-take : (d : Did) → pushed .did ≡ d → c .puller .acquire .active ≡ false → (exit ≡ sems) × (r .answer ≡ answer.Event (Plain kind.Error))
+    abbrev Stopped : Type 0
+    Stopped = (exit ≡ sems) × (r .answer ≡ answer.Event (Plain kind.Error)) × KeepsAdvance c ws es (r .channel .pusher)
+
+    by-take : (d : Did) → pushed .did ≡ d → c .puller .acquire .active ≡ false → Stopped
     by-take (did.Event e) d a = absurd (fails (ap (λ (y : Stepped). puller-record.number (y .channel .puller .error)) (ended e a d .0) ∙ run .1))
     by-take (did.Submit m) d a =
         let x = submitted m a d in
         let o = takeOf (level .number) (c .puller) m t sems in
         let p : r .channel .puller .error ≡ o .taken .puller .error = ap (λ (y : Stepped). y .channel .puller .error) (x .0) in
         let f = puller-failing.failing .take level (c .puller) m t sems (o .memory) (o .taken) (record { answer = refl; memory = refl }) (run .1) (λ z. fails (ap puller-record.number p ∙ z)) in
-        (x .1 ∙ f .1, ap (λ (y : Stepped). y .answer) (x .0) ∙ ap answer.Event (f .0))
+        let keeps : KeepsAdvance c ws es (r .channel .pusher) = record {
+          move = λ y b e. ap (λ (y : Stepped). y .channel .pusher) (x .0) ∙ ap (λ (y : Pushed). y .pusher) (sym e);
+          retry = λ b. absurd (false≢true (sym a ∙ b));
+        } in
+        (x .1 ∙ f .1, ap (λ (y : Stepped). y .answer) (x .0) ∙ ap answer.Event (f .0), keeps)
 
-    take-error : (b : Bool) → c .puller .acquire .active ≡ b → (exit ≡ sems) × (r .answer ≡ answer.Event (Plain kind.Error))
+    take-error : (b : Bool) → c .puller .acquire .active ≡ b → Stopped
     take-error true a =
         let x = retried-is a in
         let p : r .channel .puller .error ≡ retried .puller .error = ap (λ (y : Stepped). y .channel .puller .error) (x .0) in
         let f = puller-failing.failing .retry level (c .puller) sems retried refl (run .1) (λ z. fails (ap puller-record.number p ∙ z)) in
-        (x .1, ap (λ (y : Stepped). y .answer) (x .0) ∙ ap (λ (y : Taken). answer.Event (y .event)) f)
+        let keeps : KeepsAdvance c ws es (r .channel .pusher) = record {
+          move = λ y b e. absurd (false≢true (sym b ∙ a));
+          retry = λ b. ap (λ (y : Stepped). y .channel .pusher) (x .0);
+        } in
+        (x .1, ap (λ (y : Stepped). y .answer) (x .0) ∙ ap (λ (y : Taken). answer.Event (y .event)) f, keeps)
     take-error false a = by-take (pushed .did) refl a
 
 pub steps : Steps

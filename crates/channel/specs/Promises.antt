@@ -28,6 +28,7 @@ use Rattle.pusher.specs.declared.record.Setup.{Setup}
 use Rattle.pusher.specs.declared.record.Run.{Run}
 use Rattle.pusher.specs.declared.record.Pusher.{Pusher}
 use Rattle.pusher.specs.declared.moving.Did.the-variants as did
+use Rattle.pusher.specs.declared.moving.Pushed.{Pushed}
 use Rattle.channel.specs.Answers.{openingRefusal, stepRefusal}
 use Rattle.channel.specs.Contracts.{Opens, Puts, StepsTo}
 use Rattle.channel.specs.declared.record.Channel.{Channel}
@@ -311,6 +312,11 @@ pub record Sentences (R : Channel → List ℕ → List ℕ → List ℕ → Lis
       → Takes (c .setup .setting .level) (c .puller) m t sems taken after
       → (r ≡ leaving c (taken .event) p (taken .puller)) × (exit ≡ after)
 
+-- p is the pusher of c after its part of a step: its move's, or, of a retry, the one that it was
+pub record KeepsAdvance (c : Channel) (ws es : List ℕ) (p : Pusher) : Type 0 where
+  pub move : (x : Pushed) → c .puller .acquire .active ≡ false → Moves (c .setup) (c .pusher) ws es x → p ≡ x .pusher
+  pub retry : c .puller .acquire .active ≡ true → p ≡ c .pusher
+
 -- the steps do what the sentences say, whole: those of the channel, of the pusher's move and of the puller;
 pub record Steps : Type 0 where
   pub channel : Sentences StepsTo
@@ -337,7 +343,7 @@ pub record Steps : Type 0 where
       → Takable c ws t sems
       → Running c
       → (puller-record.number (r .channel .puller .error) ≡ 0 → ⊥)
-      → (exit ≡ sems) × (r .answer ≡ answer.Event (Saying kind.Error))
+      → (exit ≡ sems) × (r .answer ≡ answer.Event (Saying kind.Error)) × KeepsAdvance c ws es (r .channel .pusher)
   pub retry-past-end :
       (c : Channel) (ws es t sems exit : List ℕ) (e : PullerError) (r : Stepped)
       → StepsTo c ws es t sems r exit
