@@ -17,10 +17,10 @@ use Rattle.word.proofs.Tests.{not-plain, or-plain, and-plain, less-plain, equal
 use Rattle.event.specs.declared.Kind.the-variants as kind
 use Rattle.event.specs.declared.Method.{Method}
 use Rattle.puller.specs.Object.{lookupOf}
-use Rattle.puller.specs.Record.{engineOf, withEngine, withLast, withAcquire}
+use Rattle.puller.specs.Record.{engineOf, withEngine, withLast, withAcquire, withDma, withOffset}
 use Rattle.puller.specs.Taking.{doneWith, failedBy, lookingUp, bindTo, bindOf, unfitFor, dmaTo, dmaOf, offsetOf, unreadyAt, isPast, pastEnd, acquireOf, forwardOf, forwardObjectOf, releaseOf, Deed, deedOf, act, takeOf}
 use Rattle.puller.specs.Contracts.{Takes}
-use Rattle.puller.specs.Promises.{Names, NamesNone, Unready, Ready, Inside, PastEnd, wordIn, Unfit, withDma, withOffset}
+use Rattle.puller.specs.Promises.{Names, NamesNone, Unready, Ready, Inside, PastEnd, wordIn, Unfit}
 use Rattle.puller.specs.declared.object.Object.{Object}
 use Rattle.puller.specs.declared.record.PullerError.{PullerError}
 use Rattle.puller.specs.declared.record.PullerError.the-variants as cause

@@ -10,7 +10,7 @@ use Rattle.word.specs.declared.setting.Level.{Level}
 use Rattle.event.specs.declared.Kind.the-variants as kind
 use Rattle.event.specs.declared.Method.{Method}
 use Rattle.event.specs.declared.Event.the-variants.{Plain}
-use Rattle.puller.specs.Record.{number, engineOf, withEngine, withLast, withReference, withSemaphore, withAcquire}
+use Rattle.puller.specs.Record.{number, engineOf, withEngine, withLast, withReference, withDma, withOffset, withAcquire}
 use Rattle.puller.specs.Taking.{doneWith, saying, failedBy}
 use Rattle.puller.specs.Contracts.{Finds, Repeats, Numbers, Halts, Takes, Retries}
 use Rattle.puller.specs.declared.object.Object.{Object}
@@ -91,13 +91,6 @@ wordIn p sems = getD sems (p .semaphore .offset / 4) 0
 -- "Below level 4, class not 2, not write-only or page table absent"
 abbrev pub Unfit : Level → Object → Type 0
 Unfit level o = (level .number < 4) × ((o .class ≡ 2 → ⊥) ⊎ (o .writeonly ≡ false) ⊎ (o .paged ≡ false))
-
--- the semaphore of a puller with another object, and with another offset
-abbrev pub withDma : Puller → ℕ → Puller
-withDma p a = withSemaphore p (record { dma = a; offset = p .semaphore .offset; valid = p .semaphore .valid })
-
-abbrev pub withOffset : Puller → ℕ → Bool → Puller
-withOffset p x valid = withSemaphore p (record { dma = p .semaphore .dma; offset = x; valid = valid })
 
 -- a method that neither a sentence nor "0x100 up" names
 pub record Unnamed (m : ℕ) : Type 0 where

@@ -41,5 +41,12 @@ withReference p x = record { engines = p .engines; last = p .last; reference = x
 abbrev pub withSemaphore : Puller → Semaphore → Puller
 withSemaphore p s = record { engines = p .engines; last = p .last; reference = p .reference; semaphore = s; acquire = p .acquire; error = p .error }
 
+-- its semaphore with another object, and with another offset
+abbrev pub withDma : Puller → ℕ → Puller
+withDma p a = withSemaphore p (record { dma = a; offset = p .semaphore .offset; valid = p .semaphore .valid })
+
+abbrev pub withOffset : Puller → ℕ → Bool → Puller
+withOffset p x valid = withSemaphore p (record { dma = p .semaphore .dma; offset = x; valid = valid })
+
 abbrev pub withAcquire : Puller → Bool → ℕ → Puller
 withAcquire p a v = record { engines = p .engines; last = p .last; reference = p .reference; semaphore = p .semaphore; acquire = record { active = a; value = v }; error = p .error }

@@ -11,7 +11,7 @@ use Rattle.event.specs.declared.Kind.the-variants as kind
 use Rattle.event.specs.declared.Method.{Method}
 use Rattle.event.specs.declared.Event.the-variants.{Plain, Of}
 use Rattle.puller.specs.Object.{lookupOf}
-use Rattle.puller.specs.Record.{withError, engineOf, withEngine, withLast, withReference, withSemaphore, withAcquire}
+use Rattle.puller.specs.Record.{withError, engineOf, withEngine, withLast, withReference, withDma, withOffset, withAcquire}
 use Rattle.puller.specs.declared.object.Object.{Object}
 use Rattle.puller.specs.declared.object.Found.{Found}
 use Rattle.puller.specs.declared.object.Found.the-variants as found
@@ -92,7 +92,7 @@ unfitFor level o = ltb level 4 && (not (eqb (o .class) 2) || (not (o .writeonly)
 unfoldable pub dmaTo : ℕ → Puller → Method → Object → Taken
 dmaTo level p m o =
     choose (unfitFor level o) (failedBy p cause.Semaphore1)
-    (doneWith (withSemaphore p (record { dma = o .address; offset = p .semaphore .offset; valid = p .semaphore .valid })) kind.Dma m (o .address))
+    (doneWith (withDma p (o .address)) kind.Dma m (o .address))
 
 unfoldable pub dmaOf : ℕ → Puller → Method → List ℕ → Taken
 dmaOf level p m t = lookingUp p (lookupOf t (m .parameter)) (dmaTo level p m)
@@ -100,7 +100,7 @@ dmaOf level p m t = lookingUp p (lookupOf t (m .parameter)) (dmaTo level p m)
 -- "below level 4, any bit outside 0xffc: SEMAPHORE 1. From 4: low two bits, SEMAPHORE 1; then bits 31-16, SEMAPHORE 3; stored
 -- and valid."
 abbrev pub offsetStored : Puller → Method → Bool → Taken
-offsetStored p m valid = doneWith (withSemaphore p (record { dma = p .semaphore .dma; offset = m .parameter; valid = valid })) kind.Offset m (m .parameter)
+offsetStored p m valid = doneWith (withOffset p (m .parameter) valid) kind.Offset m (m .parameter)
 
 unfoldable pub offsetOf : ℕ → Puller → Method → Taken
 offsetOf level p m =
