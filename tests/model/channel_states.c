@@ -1,11 +1,6 @@
 /* Channels to ask about, well-formed or not, and the PUT records, which need nothing else. */
 #include "channel_vectors.h"
 
-uint32_t draw_among(struct draw *draw, const uint32_t *numbers, uint32_t count)
-{
-    return numbers[draw_below(draw, count)];
-}
-
 uint32_t draw_any_number(struct draw *draw)
 {
     static const uint32_t ends[] = {0, 1, 0x7fffffff, 0x80000000, 0xfffffffe, UINT32_MAX};

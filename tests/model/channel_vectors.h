@@ -77,9 +77,6 @@ uint32_t add_put(struct buffer *buffer, size_t header, struct channel *channel, 
 
 /* ---- Channels to ask about (channel_states.c) ---- */
 
-/* One of a few numbers. */
-uint32_t draw_among(struct draw *draw, const uint32_t *numbers, uint32_t count);
-
 /* Any number, in a third of all cases one at an end of 32 bits. */
 uint32_t draw_any_number(struct draw *draw);
 

@@ -30,6 +30,12 @@ static inline bool draw_once_in(struct draw *draw, uint32_t times)
     return draw_below(draw, times) == 0;
 }
 
+/* One of a few numbers. */
+static inline uint32_t draw_among(struct draw *draw, const uint32_t *numbers, uint32_t count)
+{
+    return numbers[draw_below(draw, count)];
+}
+
 /* A word: one in five is any word, the others lean to bits 1-0 = 00 and to upper halves 0 to 4, since few
  * words at large are SLI conditionals, returns or long forms. */
 static inline uint32_t draw_word(struct draw *draw)

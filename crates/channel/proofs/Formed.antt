@@ -11,10 +11,10 @@ use borrow.Author.Tests.{eq-eqb, eqb-true, eqb-false, ne-eqb, leb-false, lt-leb,
 use Rattle.word.specs.Setting.{levelRefused, modeRefused, sliRefused}
 use Rattle.word.proofs.First.{choose-true, choose-false}
 use Rattle.word.proofs.Tests.{both, not-plain, or-plain, and-plain, less-plain, equal-plain}
-use Rattle.puller.specs.Object.{found?}
+use Rattle.word.specs.Lowest.{found?}
 use Rattle.puller.specs.Record.{engineOf}
 use Rattle.puller.specs.declared.record.Puller.{Puller}
-use Rattle.puller.proofs.Lowest.{lowest-none}
+use Rattle.word.proofs.Lowest.{lowest-none}
 use Rattle.pusher.specs.declared.record.Setup.{Setup}
 use Rattle.channel.specs.State.{orderRefused, setupFits, Width, within, addressBits, widths, addresses, aligned, tooWide, enginesFit, wellFormed}
 use Rattle.channel.specs.Promises.{SetUp, Narrow, WellFormed}

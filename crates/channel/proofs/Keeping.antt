@@ -18,7 +18,8 @@ use Rattle.word.specs.declared.reading.Reading.the-variants.{Increasing, NonInc
 use Rattle.word.proofs.First.{by-test, choose-false}
 use Rattle.word.proofs.Promises.{widths}
 use Rattle.event.specs.declared.Method.{Method}
-use Rattle.puller.specs.Object.{objectAt, foundAt, lookupOf, lowest, has, entries}
+use Rattle.word.specs.Lowest.{lowest}
+use Rattle.puller.specs.Object.{objectAt, foundAt, lookupOf, has, entries}
 use Rattle.puller.specs.Taking as taking
 use Rattle.puller.specs.declared.object.Object.{Object}
 use Rattle.puller.specs.declared.object.Found.{Found}

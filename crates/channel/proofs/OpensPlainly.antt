@@ -14,7 +14,8 @@ use Rattle.word.specs.Setting.{DUPLICATE, refusedOr}
 use Rattle.word.proofs.First.{orElse, first-append, Agree, first-is, by-test, choose-true, choose-false}
 use Rattle.word.proofs.Settings.{accepted}
 use Rattle.word.proofs.Tests.{or-plain, and-plain, less-plain, equal-plain}
-use Rattle.puller.specs.Object.{lowest, found?, entries, repeats, repeatAt, repeatOf}
+use Rattle.word.specs.Lowest.{lowest, found?}
+use Rattle.puller.specs.Object.{entries, repeats, repeatAt, repeatOf}
 use Rattle.puller.specs.Record as puller-record
 use Rattle.puller.specs.declared.object.Repeat.{Repeat}
 use Rattle.puller.specs.declared.object.Repeat.the-variants as repeat

@@ -10,10 +10,10 @@ use denote.Laws.{Is}
 use denote.Struct.Declared.{row}
 use borrow.Author.Tests.{lt-ltb, le-ltb, le-leb, eq-eqb, ne-eqb}
 use Rattle.word.proofs.Tests.{both}
-use Rattle.puller.specs.Object.{lowest, found?}
+use Rattle.word.specs.Lowest.{lowest, found?}
 use Rattle.puller.specs.Record.{engineOf}
 use Rattle.puller.specs.declared.record.Puller.{Puller}
-use Rattle.puller.proofs.Lowest.{lowest-at}
+use Rattle.word.proofs.Lowest.{lowest-at}
 use Rattle.channel.specs.State.{setupFits, Width, _in-bits_, within, addressWidths, runWidths, engineWidths, tooWide, enginesFit, otherWidths, addresses, aligned, wellFormed}
 use Rattle.channel.specs.declared.record.Channel.{Channel}
 use Rattle.channel.proofs.record.Channel.{the-type}

@@ -6,7 +6,7 @@ use mathlib.Core.List.{List, [], _∷_, _++_}
 use lib.Dec.{eqb, leb, ltb}
 use Rattle.word.specs.First.{choose}
 use Rattle.word.specs.Setting.{levelRefused, modeRefused, sliRefused}
-use Rattle.puller.specs.Object.{lowest, found?}
+use Rattle.word.specs.Lowest.{lowest, found?}
 use Rattle.puller.specs.Record.{engineOf}
 use Rattle.puller.specs.declared.record.Puller.{Puller}
 use Rattle.pusher.specs.declared.record.Setup.{Setup}

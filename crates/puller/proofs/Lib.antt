@@ -1,4 +1,3 @@
-pub mod Lowest
 pub mod Table
 pub mod Engines
 pub mod Deeds

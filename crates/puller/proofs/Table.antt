@@ -9,13 +9,14 @@ use mathlib.Core.Option.{Option, none, some}
 use native.Mathlib.Omega.{arith}
 use borrow.Author.Tests.{eq-eqb, ne-eqb, eqb-true, eqb-false, not-true}
 use Rattle.word.proofs.Tests.{equal-plain, not-plain}
-use Rattle.puller.specs.Object.{lowest, found?, entries, handle, objectAt, has, foundAt, lookupOf, repeats, repeatAt, repeatOf}
+use Rattle.word.specs.Lowest.{lowest, found?}
+use Rattle.puller.specs.Object.{entries, handle, objectAt, has, foundAt, lookupOf, repeats, repeatAt, repeatOf}
 use Rattle.puller.specs.Promises.{Whole, Describes, Names, NamesNone, Repeated}
 use Rattle.puller.specs.declared.object.Object.{Object}
 use Rattle.puller.specs.declared.object.Found.{Found}
 use Rattle.puller.specs.declared.object.Found.the-variants as found
 use Rattle.puller.specs.declared.object.Repeat.the-variants as repeat
-use Rattle.puller.proofs.Lowest.{lowest-more, lowest-at, lowest-none, lowest-some}
+use Rattle.word.proofs.Lowest.{lowest-more, lowest-at, lowest-none, lowest-some}
 
 -- two tests of one condition are equal
 one-test : (a b : Bool) {P : Type 0} → a ≡ true ↔ P → b ≡ true ↔ P → a ≡ b

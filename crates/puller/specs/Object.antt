@@ -1,30 +1,17 @@
 -- The object table.
-use Prim.Native.Nat.{ℕ, zero, suc, _+_, _*_, _/_}
-use mathlib.Core.Bool.{Bool, true, false}
+use Prim.Native.Nat.{ℕ, _+_, _*_, _/_}
+use mathlib.Core.Bool.{Bool}
 use mathlib.Core.List.{List}
 use mathlib.Core.Option.{Option, none, some}
 use lib.Dec.{eqb}
 use lib.ListN.{length, getD}
-use Rattle.word.specs.First.{choose}
+use Rattle.word.specs.Lowest.{lowest, found?}
 use Rattle.word.specs.Parts.{bits}
 use Rattle.puller.specs.declared.object.Object.{Object}
 use Rattle.puller.specs.declared.object.Found.{Found}
 use Rattle.puller.specs.declared.object.Found.the-variants as found
 use Rattle.puller.specs.declared.object.Repeat.{Repeat}
 use Rattle.puller.specs.declared.object.Repeat.the-variants as repeat
-
--- the lowest number below n that passes a test, if any does
-unfoldable pub keep : Option ℕ → Option ℕ → Option ℕ
-keep none b = b
-keep (some k) b = some k
-
-unfoldable pub lowest : (ℕ → Bool) → ℕ → Option ℕ
-lowest f zero = none
-lowest f (suc n) = keep (lowest f n) (choose (f n) (some n) none)
-
-unfoldable pub found? : Option ℕ → Bool
-found? none = false
-found? (some k) = true
 
 -- "Object entry, four words": how many whole entries there are, and word k of entry i
 abbrev pub entries : List ℕ → ℕ

@@ -1,4 +1,5 @@
 pub mod First
+pub mod Lowest
 pub mod Setting
 pub mod Parts
 pub mod Form

@@ -6,8 +6,8 @@ use native.Mathlib.Omega.{arith}
 use lib.Dec.{leb}
 use lib.ListN.{getD}
 use borrow.Author.Tests.{lt-leb}
-use Rattle.puller.specs.Object.{lowest}
-use Rattle.puller.proofs.Lowest.{lowest-more}
+use Rattle.word.specs.Lowest.{lowest}
+use Rattle.word.proofs.Lowest.{lowest-more}
 use Rattle.channel.specs.State.{within}
 use Rattle.channel.proofs.Widths.{wide, narrow, engine-wide, engines-narrow}
 use Rattle.channel.proofs.record.bound.Statement.{statement}

@@ -2,9 +2,10 @@ use Prim.Native.Nat.{_-_, _≤_}
 use mathlib.Core.Path.{_≡_, refl, _∙_}
 use mathlib.Core.Option.{none}
 use native.Mathlib.Omega.{arith}
-use Rattle.puller.specs.Object.{lowest, has, handle, repeats, entries}
+use Rattle.word.specs.Lowest.{lowest}
+use Rattle.puller.specs.Object.{has, handle, repeats, entries}
 use Rattle.puller.specs.declared.object.Repeat.the-variants.{Nothing}
-use Rattle.puller.proofs.Lowest.{lowest-more}
+use Rattle.word.proofs.Lowest.{lowest-more}
 use Rattle.puller.proofs.Table.{has-more, repeats-at, repeats-not, repeat-at, repeat-none}
 use Rattle.puller.proofs.object.first_repeat.Statement.{statement}
 use Rattle.puller.proofs.object.first_repeat.Tie as tie

@@ -2,7 +2,8 @@ use Prim.Native.Nat.{_-_, _≤_}
 use mathlib.Core.Path.{_≡_, refl}
 use mathlib.Core.Option.{none}
 use native.Mathlib.Omega.{arith}
-use Rattle.puller.specs.Object.{lowest, has, entries}
+use Rattle.word.specs.Lowest.{lowest}
+use Rattle.puller.specs.Object.{has, entries}
 use Rattle.puller.proofs.Table.{has-more, lookup-at, lookup-none}
 use Rattle.puller.proofs.object.lookup.Statement.{statement}
 use Rattle.puller.proofs.object.lookup.Tie as tie

@@ -7,8 +7,8 @@ use mathlib.Core.Option.{Option, none, some}
 use native.Mathlib.Nat.{eq-or-lt-of-le}
 use native.Mathlib.Numerals.{add-one}
 use native.Mathlib.Omega.{arith}
 use Rattle.word.specs.First.{choose}
-use Rattle.puller.specs.Object.{keep, lowest}
+use Rattle.word.specs.Lowest.{keep, lowest}
 
 -- none of two, and k of two: of the first, or of the second where the first has none
 keep-none : (a b : Option ℕ) → keep a b ≡ none → (a ≡ none) × (b ≡ none)

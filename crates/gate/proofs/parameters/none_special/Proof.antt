@@ -1,0 +1,14 @@
+use mathlib.Core.Bool.{false≢true}
+use native.Mathlib.Omega.{arith}
+use borrow.Author.Tests.{leb-true}
+use Rattle.gate.proofs.Methods.{above-special}
+use Rattle.gate.proofs.parameters.none_special.Statement.{statement}
+use Rattle.gate.proofs.parameters.none_special.Tie as tie
+
+pub none-special-spec : {M : Type 1} → statement M
+none-special-spec =
+    tie.close
+    (tie.spec
+    (λ c e. absurd (false≢true e))
+    (λ c. omega (arith, c .before .before .before .pre .count))
+    (λ c e level. above-special _ (c .before .if1 .left) (leb-true _ _ e) level))

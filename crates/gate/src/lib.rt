@@ -1,0 +1,15 @@
+// The gatekeeper: judges words, with a map of their command starts that nobody trusts, against a list of
+// permitted methods.
+mod export;
+mod judging;
+mod lent;
+mod map;
+mod parameters;
+mod permit;
+mod reason;
+
+pub use export::upborliya_judge;
+pub use judging::Judgement;
+pub use judging::Verdict;
+pub use judging::judge;
+pub use reason::Reason;

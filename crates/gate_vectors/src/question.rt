@@ -1,0 +1,80 @@
+// The questions on standard input: their bytes go into the pools.
+use crate::input::next_byte;
+use crate::input::next_word;
+use crate::pool::fill;
+use crate::pool::load;
+use crate::pool::load_listed;
+
+// The most bytes that a large record lends: more than the library takes, so that SIZE is tried.
+pub const LARGE_WORDS: usize = 4_194_312;
+
+pub const LARGE_MAP: usize = 1_048_580;
+
+// The most bytes that a record lends as its list of permitted methods.
+pub const MOST_PERMIT: usize = 4096;
+
+// Lengths are in bytes. The list of permitted methods has `fill` where a record gives no other byte.
+pub struct Question {
+    pub level: u32,
+    pub sli: u32,
+    pub words: u32,
+    pub map: u32,
+    pub permit: u32,
+    pub fill: u8,
+}
+
+pub(crate) fn next_question() -> Question {
+    Question {
+        level: next_word(),
+        sli: next_word(),
+        words: next_word(),
+        map: next_word(),
+        permit: next_word(),
+        fill: next_byte(),
+    }
+}
+
+// Reads the bytes of a record. False if the format has no such record.
+pub(crate) fn loaded(
+    kind: u32,
+    question: Question,
+    words: &mut [u8],
+    map: &mut [u8],
+    permit: &mut [u8],
+) -> bool {
+    match kind {
+        1 => judge_loaded(question, words, map, permit),
+        2 => large_loaded(question, words, map, permit),
+        _ => false,
+    }
+}
+
+// At most 1,024 bytes of words and 256 of the map are given, and 64 of the list with their places.
+fn judge_loaded(question: Question, words: &mut [u8], map: &mut [u8], permit: &mut [u8]) -> bool {
+    let listed = next_word();
+    if 64 < listed || !fits(question, 1024, 256) {
+        return false;
+    }
+    fill(permit, question.permit, question.fill);
+    load_listed(permit, listed);
+    load(words, question.words);
+    load(map, question.map);
+    true
+}
+
+// One byte is given for all the words, and one for the whole map.
+fn large_loaded(question: Question, words: &mut [u8], map: &mut [u8], permit: &mut [u8]) -> bool {
+    if !fits(question, LARGE_WORDS, LARGE_MAP) {
+        return false;
+    }
+    fill(permit, question.permit, question.fill);
+    fill(words, question.words, next_byte());
+    fill(map, question.map, next_byte());
+    true
+}
+
+fn fits(question: Question, words: usize, map: usize) -> bool {
+    question.words as usize <= words
+        && question.map as usize <= map
+        && question.permit as usize <= MOST_PERMIT
+}

@@ -1,0 +1,81 @@
+-- The three demands, in the words in which they are signed, each with the statements that say it. A statement stands in specs/ of
+-- the crate that it is about; it speaks of public functions through their contracts (that crate's specs/Contracts.antt), and that
+-- every function meets its contract at every input is what the check of its crate proves. docs/PROMISES.md has each statement
+-- in plain words.
+use Rattle.word.specs.Numbers as numbers
+use Rattle.word.specs.Promises as word
+use Rattle.event.specs.Promises as event
+use Rattle.puller.specs.Promises as puller
+use Rattle.pusher.specs.Promises as pusher
+use Rattle.channel.specs.Promises as channel
+use Rattle.gate.specs.Promises as gate
+use Rattle.gate.specs.Reasons as reasons
+use Rattle.gate.specs.Examples as examples
+
+-- 1. "Any words, tables, maps and numbers get an answer. No public function has a `requires`. A refusal is one of the paper's
+-- table, given exactly when the table says, and changes neither the channel nor lent memory."
+pub record First : Type 0 where
+  pub word-refused : word.Refused
+  pub channel-refused : channel.Refused
+  pub channel-accepted : channel.Accepted
+  pub gate-refused : gate.Refused
+  -- and so is a reason, with its place
+  pub gate-reasons : reasons.Reasons
+  -- and no contract leaves two outcomes
+  pub word-one : word.One
+  pub event-one : event.One
+  pub puller-one : puller.One
+  pub pusher-one : pusher.One
+  pub channel-one : channel.One
+  pub gate-one : gate.One
+
+-- 2. "Every step of the channel does what the paper says: event, error, channel, semaphore words. What the writer writes reads
+-- back as the same command; an accepted command writes back to the same words, but for the 8 unused bits of a long count."
+pub record Second : Type 1 where
+  -- what the channel, its pusher and its puller do, sentence by sentence, at every channel that is not refused
+  pub steps : channel.Steps
+  pub pusher-failing : pusher.Failing
+  pub puller-failing : puller.Failing
+  pub first-repeat : puller.FirstRepeat
+  -- and the sentences leave no case open
+  pub channel-no-other : channel.NoOther
+  pub pusher-no-other : pusher.NoOther
+  pub puller-no-other : puller.NoOther
+  -- what is opened is never refused as ill-formed, whatever puts and steps come after
+  pub kept : channel.Kept
+  pub told : event.Told
+  -- reader and writer
+  pub read-back : word.ReadBack
+  pub write-back : word.WriteBack
+  pub at-place : word.AtPlace
+  pub widths : word.Widths
+  pub specials : word.Specials
+  pub one-form : word.OneForm
+  -- the paper's 'Numbers'
+  pub words : numbers.Numbers
+  pub entry : pusher.EntryNumbers
+
+-- 3. "If the gatekeeper accepts words and an untrusted map of command starts, a fresh NV04-style channel (same level and SLI
+-- setting, put once at the end of those words, limit not below the last) never raises a pusher error in any number of steps,
+-- submits only permitted methods, reads no word both as command and as parameter, and has no command or subroutine open when its
+-- read address reaches put. And where neither level, SLI setting nor sizes are refused and no place reached by the path rule is
+-- bad, the map that marks exactly the reached places is accepted."
+pub record Third : Type 0 where
+  pub sound : gate.Sound
+  -- of the pusher's moves alone, and how a step comes to one
+  pub sound-moves : gate.SoundMoves
+  pub at-most-one-move : gate.AtMostOneMove
+  -- what 'reads as' is by place and event
+  pub read-as : gate.ReadAs
+  pub complete : gate.Complete
+  pub none-bad : gate.NoneBad
+  -- three submissions that the second half speaks of
+  pub examples : examples.Examples
+  -- the count of the answer is the number of permitted methods, and the number for C gives the answer back
+  pub counted : gate.Counted
+  pub gives-back : gate.GivesBack
+
+pub record Demands : Type 1 where
+  pub first : First
+  pub second : Second
+  pub third : Third

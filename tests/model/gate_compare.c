@@ -1,0 +1,365 @@
+/* Compares the archive's gatekeeper with the model's on many submissions, short and long, sound, damaged,
+ * wild and refused. What is lent to the archive ends where an unreadable page begins. Accepted words are run
+ * on the model's channel, and the map of exactly the reached pairs has to be accepted exactly if no place is
+ * bad. The first difference is described and ends the run. */
+#define _DEFAULT_SOURCE
+
+#include <inttypes.h>
+#include <signal.h>
+#include <stdio.h>
+#include <stdlib.h>
+#include <string.h>
+#include <sys/mman.h>
+#include <sys/wait.h>
+#include <unistd.h>
+
+#include "gate_draw.h"
+#include "gate_run.h"
+#include "upborliya.h"
+
+enum { REASONS = 13, REFUSALS = 10, STEPS = 500, MOST_LINES = 4096 };
+
+/* Some submissions end so many bytes before the unreadable page, so that words lie at any address. */
+enum { MOST_GAP = 3 };
+
+/* The submission under way, and what the archive said of it once it has. */
+static struct given given;
+static bool is_answered;
+static struct judgement archive;
+
+/* What was counted so far. */
+static struct {
+    unsigned long submissions;
+    unsigned long reasons[REASONS];
+    unsigned long refusals[REFUSALS];
+    unsigned long exact_maps;
+    unsigned long runs;
+} counts;
+
+/* ---- Differences ---- */
+
+/* The bytes in groups of so many, a line for each row of equal groups; not more lines than can be read. */
+static void print_bytes(const char *name, const uint8_t *bytes, size_t length, size_t group)
+{
+    unsigned lines = 0;
+    size_t next;
+
+    fprintf(stderr, "%s, %zu bytes:\n", name, length);
+    for (size_t at = 0; at < length && lines < MOST_LINES; at = next, lines++) {
+        size_t size = length - at < group ? length - at : group;
+
+        next = at + size;
+        while (next + size <= length && memcmp(bytes + at, bytes + next, size) == 0)
+            next += size;
+        fprintf(stderr, "  %zu to %zu: 0x", at / group, (next - 1) / group);
+        for (size_t i = size; i-- != 0;)
+            fprintf(stderr, "%02x", bytes[at + i]);
+        fputc('\n', stderr);
+    }
+    if (lines == MOST_LINES)
+        fprintf(stderr, "  and so on\n");
+}
+
+static void print_judgement(const char *name, struct judgement judgement)
+{
+    fprintf(stderr, "%s: reason %" PRIu32 ", refusal %" PRIu32 ", count %" PRIu32 ", place %" PRIu32 "\n",
+            name, judgement.reason, judgement.refusal, judgement.count, judgement.place);
+}
+
+/* Says what does not hold, describes the submission and ends the run. */
+static void fail(const char *sentence)
+{
+    struct submission submission = submission_of(&given);
+
+    fprintf(stderr, "gate compare: failed: %s\n", sentence);
+    if (is_answered)
+        print_judgement("archive", archive);
+    print_judgement("model", model_judge(&submission));
+    fprintf(stderr, "submission %lu: level %" PRIu32 ", SLI %" PRIu32 "\n", counts.submissions, given.level,
+            given.sli);
+    print_bytes("words", given.words, given.words_length, 4);
+    print_bytes("map", given.map, given.map_length, 1);
+    print_bytes("permit list", given.permit, given.permit_length, 1);
+    exit(1);
+}
+
+static void fail_at_fault(int number)
+{
+    (void)number;
+    fail("nothing is read or written that is not lent");
+}
+
+/* What has nothing to do with a submission. */
+static void check(bool good, const char *sentence)
+{
+    if (good)
+        return;
+    fprintf(stderr, "gate compare: failed: %s\n", sentence);
+    exit(1);
+}
+
+/* ---- Lent memory ---- */
+
+/* The ends of the rooms for words, map and permit list, each the start of an unreadable page. */
+static struct {
+    uint8_t *words;
+    uint8_t *map;
+    uint8_t *permit;
+} ends;
+
+/* Room for so many bytes and a gap. */
+static uint8_t *make_room(size_t length)
+{
+    size_t page = (size_t)sysconf(_SC_PAGESIZE);
+    size_t readable = (length + MOST_GAP + page - 1) / page * page;
+    uint8_t *room = mmap(NULL, readable + page, PROT_READ | PROT_WRITE, MAP_PRIVATE | MAP_ANONYMOUS, -1, 0);
+
+    check(room != MAP_FAILED, "there is room");
+    check(mprotect(room + readable, page, PROT_NONE) == 0, "a page is made unreadable");
+    return room + readable;
+}
+
+/* Whether reading a byte ends the program with SIGSEGV. */
+static bool faults(const volatile uint8_t *byte)
+{
+    int status = 0;
+    pid_t child = fork();
+
+    check(child >= 0, "a process is made");
+    if (child == 0) {
+        (void)*byte;
+        _exit(0);
+    }
+    check(waitpid(child, &status, 0) == child, "the process ends");
+    return WIFSIGNALED(status) && WTERMSIG(status) == SIGSEGV;
+}
+
+/* Reading one byte past a room faults, reading its last byte doesn't. */
+static void test_room(const uint8_t *end)
+{
+    check(faults(end), "reading past lent memory faults");
+    check(!faults(end - 1), "lent memory can be read");
+}
+
+static void make_rooms(void)
+{
+    ends.words = make_room(sizeof given.words);
+    ends.map = make_room(sizeof given.map);
+    ends.permit = make_room(sizeof given.permit);
+    test_room(ends.words);
+    test_room(ends.map);
+    test_room(ends.permit);
+}
+
+/* A copy that ends with its room, or a gap before it. Every other time memory of length 0 is lent by a null
+ * pointer. */
+static const uint8_t *lend(uint8_t *end, const uint8_t *bytes, size_t length)
+{
+    size_t turn = counts.submissions % 16;
+    size_t gap = turn <= MOST_GAP ? turn : 0;
+
+    if (length == 0 && turn % 2 == 0)
+        return NULL;
+    return memcpy(end - gap - length, bytes, length);
+}
+
+static bool is_kept(const uint8_t *lent, const uint8_t *bytes, size_t length)
+{
+    return length == 0 || memcmp(lent, bytes, length) == 0;
+}
+
+/* ---- One submission ---- */
+
+static struct judgement unpack(upborliya_answer answer)
+{
+    return (struct judgement){upborliya_reason(answer), upborliya_refusal(answer), upborliya_count(answer),
+                              upborliya_place(answer)};
+}
+
+static bool same(struct judgement a, struct judgement b)
+{
+    return a.reason == b.reason && a.refusal == b.refusal && a.count == b.count && a.place == b.place;
+}
+
+static bool is_accepted(void)
+{
+    return archive.reason == REASON_NONE && archive.refusal == REFUSAL_NONE;
+}
+
+/* Asks the archive, which has to leave alone what it is lent. */
+static upborliya_answer ask(void)
+{
+    const uint8_t *words = lend(ends.words, given.words, given.words_length);
+    const uint8_t *map = lend(ends.map, given.map, given.map_length);
+    const uint8_t *permit = lend(ends.permit, given.permit, given.permit_length);
+    upborliya_answer answer;
+
+    is_answered = false;
+    answer = upborliya_judge(given.level, given.sli, words, given.words_length, map, given.map_length,
+                             permit, given.permit_length);
+    archive = unpack(answer);
+    is_answered = true;
+    if (!is_kept(words, given.words, given.words_length) || !is_kept(map, given.map, given.map_length) ||
+        !is_kept(permit, given.permit, given.permit_length))
+        fail("nothing is written");
+    return answer;
+}
+
+/* The archive's judgement has to be the model's. */
+static void compare(void)
+{
+    struct submission submission = submission_of(&given);
+    upborliya_answer answer = ask();
+
+    if (!same(archive, model_judge(&submission)))
+        fail("the archive's judgement is the model's");
+    if ((answer >> 16 & 0xff) != 0)
+        fail("bits 23-16 of the answer are 0");
+    counts.submissions++;
+    if (archive.refusal == REFUSAL_NONE)
+        counts.reasons[archive.reason]++;
+    else
+        counts.refusals[archive.refusal]++;
+}
+
+/* Runs accepted words on the model's channel. */
+static void run(struct draw *draw)
+{
+    struct submission submission = submission_of(&given);
+    const char *breach;
+
+    if (!is_accepted())
+        return;
+    breach = run_breach(draw, &submission, STEPS);
+    if (breach != NULL)
+        fail(breach);
+    counts.runs++;
+}
+
+/* The submission as it is, then, if it isn't refused, with the map of exactly the reached pairs. */
+static void test_submission(struct draw *draw)
+{
+    struct path path;
+
+    compare();
+    run(draw);
+    if (archive.refusal != REFUSAL_NONE)
+        return;
+    path = give_exact_map(&given);
+    compare();
+    if (is_accepted() == path.is_bad)
+        fail("the exact map is accepted exactly if no place is bad");
+    if (archive.place != path.place)
+        fail("the exact map has its reason at the lowest bad place");
+    counts.exact_maps++;
+    run(draw);
+}
+
+/* ---- Submissions ---- */
+
+/* Null pointers for each of the three, and for several at once: each length is 0 or a good one, and each
+ * submission is made twice. */
+static void test_nulls(void)
+{
+    for (unsigned i = 0; i < 2 * 8 * 6; i++) {
+        given.level = i / 16;
+        given.sli = given.level >= 3;
+        set_count(&given, 1);
+        set_word(&given, 0, 0);
+        given.map[0] = STATE_MAIN;
+        fill_permit(&given, 0x11);
+        if ((i & 2) != 0)
+            given.words_length = 0;
+        if ((i & 4) != 0)
+            given.map_length = 0;
+        if ((i & 8) != 0)
+            given.permit_length = 0;
+        compare();
+    }
+}
+
+/* So many words: wild ones in a quarter of all cases, else sound, of which half are damaged, at times more
+ * than once; some are refused. */
+static void test_drawn(struct draw *draw, uint32_t size)
+{
+    uint32_t kind = draw_below(draw, 8);
+
+    if (kind < 2)
+        draw_wild(draw, &given, size);
+    else
+        draw_sound(draw, &given, size);
+    for (bool more = kind >= 5; more; more = draw_once_in(draw, 4))
+        damage(draw, &given, draw_below(draw, damage_count()));
+    if (draw_once_in(draw, 12))
+        refuse(draw, &given);
+    test_submission(draw);
+}
+
+/* Words that are all the same, with the same mark. */
+static void give_uniform(uint32_t size, uint32_t word, uint8_t mark)
+{
+    given.level = 5;
+    given.sli = 1;
+    set_count(&given, size);
+    fill_permit(&given, 0xff);
+    memset(given.map, mark, given.map_length);
+    for (uint32_t i = 0; i < size; i++)
+        set_word(&given, i, word);
+}
+
+/* As many words as there can be: count 0, conditionals, the longest run, old jumps to place 0, to the last
+ * place and to the one before. */
+static void test_uniforms(struct draw *draw)
+{
+    static const uint32_t words[] = {0x00000000, 0x00010010, 0x1ffc0100, 0x20000000, 0x203ffffc, 0x203ffff8};
+
+    for (unsigned i = 0; i < sizeof words / sizeof words[0]; i++)
+        for (uint8_t mark = STATE_MAIN; mark <= STATE_BOTH; mark++) {
+            give_uniform(SIZE_LIMIT, words[i], mark);
+            test_submission(draw);
+        }
+}
+
+/* Lengths at and around the most that may be lent, part words too. */
+static void test_sizes(void)
+{
+    for (size_t length = 4 * SIZE_LIMIT - 4; length <= 4 * SIZE_LIMIT + 8; length++) {
+        give_uniform(SIZE_LIMIT + 2, 0x00000000, STATE_MAIN);
+        given.words_length = length;
+        given.map_length = length / 4;
+        compare();
+    }
+}
+
+static void print_summary(void)
+{
+    printf("gate compare: %lu submissions, %lu of them with an exact map, %lu accepted, %lu runs\n",
+           counts.submissions, counts.exact_maps, counts.reasons[REASON_NONE], counts.runs);
+    printf("reasons:");
+    for (unsigned i = 1; i < REASONS; i++)
+        printf(" %u=%lu", i, counts.reasons[i]);
+    printf("\nrefusals:");
+    for (unsigned i = 1; i < REFUSALS; i++)
+        if (counts.refusals[i] != 0)
+            printf(" %u=%lu", i, counts.refusals[i]);
+    putchar('\n');
+}
+
+int main(void)
+{
+    struct draw draw = {0xc0de};
+
+    make_rooms();
+    signal(SIGSEGV, fail_at_fault);
+    test_nulls();
+    for (unsigned i = 0; i < 200000; i++)
+        test_drawn(&draw, draw_below(&draw, 65));
+    for (unsigned i = 0; i < 500; i++)
+        test_drawn(&draw, draw_below(&draw, 6000));
+    for (unsigned i = 0; i < 10; i++)
+        test_drawn(&draw, SIZE_LIMIT);
+    test_uniforms(&draw);
+    test_sizes();
+    print_summary();
+    return 0;
+}

@@ -1,0 +1,18 @@
+/* A model of the path rule, written from the paper alone: which pairs are reached, and what is bad. */
+#ifndef MODEL_PATH_H
+#define MODEL_PATH_H
+
+#include "gate.h"
+
+/* Whether there is a bad place, and the lowest one, else 0. */
+struct path {
+    bool is_bad;
+    uint32_t place;
+};
+
+/* Writes the map of exactly the reached pairs, a byte a word: 1 for main plus 2 for inside a subroutine.
+ * Level, SLI, words and permit list of the submission must not be refused; its own map is not looked at. The
+ * room is lent for two pairs a word. */
+struct path model_path(const struct submission *submission, uint8_t *map, struct pair *room);
+
+#endif
