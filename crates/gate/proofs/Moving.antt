@@ -83,6 +83,10 @@ module _ (x : Submission) (map : List ℕ) where
     pub pusher : Inv (r .pusher)
     pub permitted : (m : Method) → Submits r m → permits (x .permit) (m .subchannel) (m .method / 4) ≡ true
 
+  -- the method of the next parameter is permitted
+  pub run-permitted : (p : Pusher) → Inv p → (p .run .count ≡ 0 → ⊥) → permits (x .permit) (p .run .subchannel) (p .run .method) ≡ true
+  run-permitted p i n = rw (first-method (p .run) (i .narrow n)) at (i .allowed 0 (omega arith))
+
   -- what a move says by itself submits nothing
   mute : (p : Pusher) (k : Kind) (m : Method) → Submits (quietly p k) m → ⊥
   mute p k m (inl e) = let z : _≡_ {A = ℕ} 0 1 = cc in omega arith
@@ -203,10 +207,7 @@ module _ (x : Submission) (map : List ℕ) where
       advances p = choose-false (rw (ne-eqb _ _ nv04-style)) _ _
 
       own-permitted : (p : Pusher) (i : Inv p) → (p .run .count ≡ 0 → ⊥) → (w : ℕ) (m : Method) → methodOf p w ≡ m → permits (x .permit) (m .subchannel) (m .method / 4) ≡ true
-      own-permitted p i n w m e =
-          let a : permits (x .permit) (p .run .subchannel) (p .run .method) ≡ true = rw (first-method (p .run) (i .narrow n)) at (i .allowed 0 (omega arith)) in
-          let q : 4 * p .run .method / 4 ≡ p .run .method = omega arith in
-          rw (← e, q) a
+      own-permitted p i n w m e = let q : 4 * p .run .method / 4 ≡ p .run .method = omega arith in rw (← e, q) (run-permitted p i n)
 
       parameter-after : (p : Pusher) (i : Inv p) → (p .run .count ≡ 0 → ⊥) → (w : ℕ) → After (parameterOf s (withGet p (p .get + 4)) w)
       unfolding parameterOf

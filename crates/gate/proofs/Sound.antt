@@ -1,5 +1,5 @@
 -- `Sound`: an accepted map keeps the channel safe. Assumes nothing.
-use Prim.Native.Nat.{ℕ, _*_}
+use Prim.Native.Nat.{ℕ, _*_, _/_}
 use mathlib.Core.Path.{_≡_, refl, ap}
 use mathlib.Core.Bool.{Bool}
 use mathlib.Core.List.{List}
@@ -9,6 +9,9 @@ use native.Mathlib.Omega.{arith}
 use lib.ListN.{length}
 use Rattle.word.specs.declared.setting.Setting.{Setting}
 use Rattle.word.specs.Answers.{checkRefusal}
+use Rattle.event.specs.declared.Kind.{Kind}
+use Rattle.event.specs.declared.Method.{Method}
+use Rattle.event.specs.declared.Event.the-variants.{Of}
 use Rattle.pusher.specs.Record.{withPut}
 use Rattle.pusher.specs.declared.record.Run as pusher-run
 use Rattle.pusher.specs.declared.record.Subroutine.{Subroutine}
@@ -17,15 +20,17 @@ use Rattle.channel.specs.Contracts.{StepsTo}
 use Rattle.channel.specs.Promises as channel
 use Rattle.channel.specs.declared.record.Channel.{Channel}
 use Rattle.channel.specs.declared.putting.Put.{Put}
+use Rattle.channel.specs.declared.stepping.Answer.the-variants as answer
 use Rattle.channel.specs.declared.stepping.Stepped.{Stepped}
 use Rattle.channel.proofs.Promises as proved
 use Rattle.gate.specs.Lent.{wordsOf}
 use Rattle.gate.specs.Judging.{settingOf}
-use Rattle.gate.specs.Promises.{Bytes, FreshPusher, Started, Lent, Later, now, step, Run, Sound}
+use Rattle.gate.specs.Promises.{Bytes, ReadsParameter, FreshPusher, Started, Lent, Later, now, step, Run, Sound}
 use Rattle.gate.proofs.Words.{words-narrow}
 use Rattle.gate.proofs.Table.{Fits, none-told, passed}
 use Rattle.gate.proofs.SoundMoves.{sound-moves}
 use Rattle.gate.proofs.Carried.{later-moved}
+use Rattle.gate.proofs.ReadAs.{read-as}
 
 -- a setting is told by its numbers
 setting-is : (s : Setting) (level : ℕ) (sli : Bool) → s .level .number ≡ level → s .mode .number ≡ 0 → s .sli ≡ sli → s ≡ settingOf level sli
@@ -101,6 +106,25 @@ module _ (level : ℕ) (sli : Bool) (bytes map list : List ℕ) (words : Bytes b
         (λ o. ⊎-elim (λ k. omega (arith, h .words)) (λ k. omega (arith, lent .semaphores)) o, (lent .table, tt)),
       )
 
+  -- a method that a step tells is that of the parameter that it reads
+  told-method :
+      (c : Channel)
+      → Later ws (s .put .channel) c
+      → (es t sems exit : List ℕ) (k : Kind) (m : Method) (r : Stepped)
+      → Lent t sems
+      → StepsTo c ws es t sems r exit
+      → r .answer ≡ answer.Event (Of k m)
+      → ReadsParameter (c .setup) (c .pusher) ws es × (m .subchannel ≡ c .pusher .run .subchannel) × (m .method ≡ 4 * c .pusher .run .method)
+  told-method c l es t sems exit k m r lent v a =
+      let can : channel.Takable c ws t sems = record { well-formed = formed c l; words = h .words; semaphores = lent .semaphores; table = lent .table } in
+      let reads = read-as .tells-method c ws es t sems exit k m r v can a in
+      ⊎-elim (λ e. let z : _≡_ {A = ℕ} 0 1 = cc in absurd (omega arith))
+      (λ e.
+      let q = e .2 in
+      let same : m ≡ record { subchannel = c .pusher .run .subchannel; method = 4 * c .pusher .run .method; parameter = e .1 } = cc in
+      (reads .1, ap (λ (y : Method). y .subchannel) same, ap (λ (y : Method). y .method) same))
+      (read-as .parameter c ws es t sems exit r v can (reads .0) (reads .1) .1)
+
 pub sound : Sound
 sound level sli bytes map list r words j a s =
     let h = passed level sli bytes map list r j a .0 in
@@ -115,6 +139,10 @@ sound level sli bytes map list r words j a s =
             no-pusher-error = safe .no-error;
             taken = step-none level sli bytes map list words h s c l;
             permitted = λ es x m g v k. safe .permitted es x m (rw (moved .0) at v) k;
+            told = λ es t sems exit k m r lent v a.
+                let at = told-method level sli bytes map list words h s c l es t sems exit k m r lent v a in
+                let same : 4 * c .pusher .run .method / 4 ≡ c .pusher .run .method = omega arith in
+                rw (at .1, at .2, same) (safe .parameter es (rw (moved .0) at (at .0)));
             closed = safe .closed;
           };
       apart = λ c d es fs l m g k v w e.

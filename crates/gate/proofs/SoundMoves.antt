@@ -20,7 +20,7 @@ use Rattle.gate.specs.Judging.{settingOf}
 use Rattle.gate.specs.Promises.{SafePusher, FreshPusher, Moved, unmoved, move, ReadsCommand, ReadsParameter, SoundMoves}
 use Rattle.gate.proofs.Table.{passed}
 use Rattle.gate.proofs.Clean.{Clean, clean, unstarted}
-use Rattle.gate.proofs.Moving.{Inv, after, starts-at}
+use Rattle.gate.proofs.Moving.{Inv, run-permitted, after, starts-at}
 
 module _ (x : Submission) (map : List ℕ) (ok : Clean x map) (small : size x ≤ 1048576) where
   module _ (s : Setup) (setting : s .setting ≡ x .setting) (style : x .setting .mode .number ≡ 0) (limit : (k : ℕ) → k < size x → 4 * k ≤ s .limit) where
@@ -30,12 +30,17 @@ module _ (x : Submission) (map : List ℕ) (ok : Clean x map) (small : size x �
     always p q i (move {q = o} es r l m e) =
         rw (e, m) (after x map ok small s setting style limit o (always p o i l) es .pusher)
 
+    -- the facts at a role that the pusher is at
+    at-role : (p : Pusher) (es : List ℕ) (r : Role) → role s p (x .words) es ≡ r → Facts s p (x .words) es r
+    at-role p es r e = rw e at (facts s p (x .words) es)
+
     safe : (p : Pusher) → Inv x map p → SafePusher s (x .words) (x .permit) p
     unfolding halts
     safe p i =
         record {
           no-error = eqb-true _ _ (not-false _ (i .running));
           permitted = λ es r m h v. after x map ok small s setting style limit p i es .permitted m (rw h at v);
+          parameter = λ es h. run-permitted x map p i (at-role p es submits h .3);
           closed = λ e.
               let a = i .address in
               let b = i .end in
@@ -46,10 +51,6 @@ module _ (x : Submission) (map : List ℕ) (ok : Clean x map) (small : size x �
                 subroutine = ⊎-elim (λ g. g .1) (λ g. absurd (omega arith)) g;
               };
         }
-
-    -- the facts at a role that the pusher is at
-    at-role : (p : Pusher) (es : List ℕ) (r : Role) → role s p (x .words) es ≡ r → Facts s p (x .words) es r
-    at-role p es r e = rw e at (facts s p (x .words) es)
 
     apart :
         (p q : Pusher) (es fs : List ℕ)

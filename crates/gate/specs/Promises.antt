@@ -157,6 +157,8 @@ pub record SafePusher (s : Setup) (ws list : List ℕ) (p : Pusher) : Type 0 whe
       → Moves s p ws es x
       → Submits x m
       → permits list (m .subchannel) (m .method / 4) ≡ true
+  -- so too by the word: one that is read as a parameter goes to a permitted method
+  pub parameter : (es : List ℕ) → ReadsParameter s p ws es → permits list (p .run .subchannel) (p .run .method) ≡ true
   -- "has no command or subroutine open when its read address reaches put"
   pub closed : p .get ≡ p .put → Closed p
 
@@ -246,6 +248,13 @@ pub record Safe (ws list : List ℕ) (c : Channel) : Type 0 where
       → GoesOn c
       → Moves (c .setup) (c .pusher) ws es x
       → Submits x m
+      → permits list (m .subchannel) (m .method / 4) ≡ true
+  -- and so is each method that a step tells
+  pub told :
+      (es t sems exit : List ℕ) (k : Kind) (m : Method) (r : Stepped)
+      → Lent t sems
+      → StepsTo c ws es t sems r exit
+      → r .answer ≡ answer.Event (Of k m)
       → permits list (m .subchannel) (m .method / 4) ≡ true
   pub closed : c .pusher .get ≡ c .pusher .put → Closed (c .pusher)
 
