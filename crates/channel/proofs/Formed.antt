@@ -14,7 +14,7 @@ use Rattle.word.proofs.Tests.{both, not-plain, or-plain, and-plain, less-plain,
 use Rattle.word.specs.Lowest.{found?}
 use Rattle.puller.specs.Record.{engineOf}
 use Rattle.puller.specs.declared.record.Puller.{Puller}
-use Rattle.word.proofs.Lowest.{lowest-none}
+use Rattle.word.proofs.Lowest.{found-none, none-found}
 use Rattle.pusher.specs.declared.record.Setup.{Setup}
 use Rattle.channel.specs.State.{orderRefused, setupFits, Width, within, addressBits, widths, addresses, aligned, tooWide, enginesFit, wellFormed}
 use Rattle.channel.specs.Promises.{SetUp, Narrow, WellFormed}
@@ -120,15 +120,11 @@ module _ (s : Setup) where
 
 -- the eight engines
 engines-plain : (p : Puller) → enginesFit p ≡ true ↔ ((subchannel : ℕ) → subchannel < 8 → engineOf p subchannel < 2 ^ 5)
-unfolding enginesFit found?
+unfolding enginesFit
 engines-plain p = (
-  λ e i l. leb-false _ _ (lowest-none (tooWide p) 8 .0 (found-none _ (not-true _ e)) i l),
-  λ h. ap (λ (o : Option ℕ). not (found? o)) (lowest-none (tooWide p) 8 .1 (λ i l. lt-leb _ _ (h i l))),
+  λ e i l. leb-false _ _ (found-none (tooWide p) 8 (not-true _ e) i l),
+  λ h. ap not (none-found (tooWide p) 8 (λ i l. lt-leb _ _ (h i l))),
 )
-  where
-    found-none : (o : Option ℕ) → found? o ≡ false → o ≡ none
-    found-none none e = refl
-    found-none (some k) e = absurd (false≢true (sym e))
 
 module _ (c : Channel) where
   pub formed : wellFormed c ≡ true → WellFormed c

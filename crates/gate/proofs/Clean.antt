@@ -1,19 +1,19 @@
 -- What acceptance says, taken apart into facts. Assumes nothing.
 use Prim.Native.Nat.{ℕ, _+_, _*_, _%_, _≤_, _<_}
-use mathlib.Core.Path.{_≡_, refl, sym}
+use mathlib.Core.Path.{_≡_, refl, sym, ap}
 use mathlib.Core.Bool.{Bool, true, false, not, _&&_, false≢true}
 use mathlib.Core.List.{List}
-use mathlib.Core.Logic.{_⊎_, inl, inr}
+use mathlib.Core.Logic.{_⊎_, inl, inr, _↔_}
 use mathlib.Core.Option.{Option, none, some}
 use native.Mathlib.Omega.{arith}
 use lib.Dec.{eqb}
 use lib.ListN.{length, getD}
-use borrow.Author.Tests.{eqb-true, eqb-false, eq-eqb, ne-eqb, ltb-false, not-false}
+use borrow.Author.Tests.{eqb-true, eqb-false, eq-eqb, ne-eqb, ltb-false, le-ltb, not-false}
 use Rattle.word.specs.First.{choose}
 use Rattle.word.specs.Lowest.{lowest, found?}
 use Rattle.word.specs.Special.{presentOf}
-use Rattle.word.proofs.First.{choose-true}
-use Rattle.word.proofs.Lowest.{lowest-none, lowest-some}
+use Rattle.word.proofs.First.{by-test, choose-true, Fails, none-fails}
+use Rattle.word.proofs.Lowest.{lowest-none, lowest-some, found-none}
 use Rattle.gate.specs.Permit.{permits}
 use Rattle.gate.specs.Map.{main, marked, unmarked, tooWide, starts, among}
 use Rattle.gate.specs.Parameters.{parametersOf, methodFor, lacking, denied}
@@ -22,7 +22,7 @@ use Rattle.gate.specs.Judging.{firstOf, placeVerdict, startVerdict, atMa
 use Rattle.gate.specs.Path.{Next}
 use Rattle.gate.specs.declared.judging.Verdict.{Verdict}
 use Rattle.gate.specs.declared.judging.Verdict.the-variants.{Accepted, Rejected, Refused}
-use Rattle.gate.proofs.Cases.{Fails, none-fails, found-none, each-arrival}
+use Rattle.gate.proofs.Cases.{each-arrival}
 
 module _ (x : Submission) (map : List ℕ) where
   -- a pair at which a command starts by the map, or the end, in main
@@ -116,14 +116,22 @@ module _ (x : Submission) (map : List ℕ) where
       go none h e = absurd (false≢true h)
       go (some n) h e = let z : _≡_ {A = ℕ} 0 1 = cc in absurd (omega arith)
 
+  -- there is no lowest byte over 3 exactly if no byte is
+  pub none-wide : lowest (tooWide map) (size x) ≡ none ↔ ((p : ℕ) → p < size x → getD map p 0 ≤ 3)
+  unfolding tooWide
+  none-wide = (
+    λ e p l. ltb-false _ _ (lowest-none (tooWide map) (size x) .0 e p l),
+    λ h. lowest-none (tooWide map) (size x) .1 (λ p l. le-ltb _ _ (h p l)),
+  )
+
   pub clean : length map ≡ size x → verdictOf x map ≡ Accepted → Clean
-  unfolding verdictOf tooWide refusedPair
+  unfolding verdictOf refusedPair
   clean same e =
       let a = both-accept _ _ e in
       let b = both-accept _ _ (a .1) in
       let passed = no-pair (lowest (refusedPair x map) (2 * size x)) refl (b .1) in
       record {
-        narrow = λ p l. ltb-false _ _ (lowest-none (tooWide map) (size x) .0 (no-place _ (a .0)) p l);
+        narrow = none-wide .0 (no-place _ (a .0));
         origin = started same (b .0);
         quiet = λ p s l m. let k = numbered p s in pair-none p s m (rw (k .1, k .2) at (passed (k .0) (k .3 l)));
       }
@@ -133,3 +141,8 @@ module _ (x : Submission) (map : List ℕ) where
   unfolding marked
   unstarted p false z m = omega (arith, eqb-true)
   unstarted p true z m = omega (arith, eqb-true)
+
+  -- nothing is found at a pair that has no reason where it is marked
+  pub mark-none : (p : ℕ) (s : Bool) → (marked map p s ≡ true → reasonAt x map p s ≡ none) → found? (atMark x map p s) ≡ false
+  unfolding atMark found?
+  mark-none p s h = by-test (λ (o : Option ℕ). found? o ≡ false) (λ m. ap found? (h m)) (λ m. refl)

@@ -11,16 +11,16 @@ use lib.ListN.{length, getD}
 use borrow.Author.Tests.{eqb-true, eqb-false, eq-eqb, ltb-false, le-ltb}
 use Rattle.word.specs.First.{choose}
 use Rattle.word.specs.Lowest.{lowest, found?}
-use Rattle.word.proofs.First.{by-test}
-use Rattle.word.proofs.Lowest.{lowest-none}
+use Rattle.word.proofs.First.{by-test, Fails, none-fails, fails-none}
+use Rattle.word.proofs.Lowest.{lowest-none, none-found}
 use Rattle.gate.specs.Map.{main, inside, marked, unmarked, tooWide, starts, among}
 use Rattle.gate.specs.Parameters.{parametersOf}
 use Rattle.gate.specs.Reason.{NO_START, nexts, arrivalCases, reasonCases, Submission, size, commandAt, firstReason, reasonAt, flawAt}
 use Rattle.gate.specs.Judging.{firstOf, placeVerdict, startVerdict, atMark, placeOf, stateOf, refusedPair, pairVerdict, verdictOf}
 use Rattle.gate.specs.Path.{Next, Reached, origin, onward, Bad, flawed, amid, Exact}
 use Rattle.gate.specs.declared.judging.Verdict.the-variants.{Accepted, Rejected}
-use Rattle.gate.proofs.Cases.{Fails, none-fails, fails-none, none-found, each-arrival, all-arrivals}
-use Rattle.gate.proofs.Clean.{fine, Clean, unstarted}
+use Rattle.gate.proofs.Cases.{each-arrival, all-arrivals}
+use Rattle.gate.proofs.Clean.{fine, Clean, none-wide, mark-none, unstarted}
 
 -- the tests of a map that says nothing
 abbrev never₂ : ℕ → ℕ → Bool
@@ -114,9 +114,7 @@ module _ (x : Submission) where
             quiet p s e (clear p s r) (λ q t n ne. let v = onward r e n ne in exact-marks q t (reached-within v) .1 v)
 
         mark-quiet : (p : ℕ) (s : Bool) → p < size x → found? (atMark x map p s) ≡ false
-        unfolding atMark found?
-        mark-quiet p s l =
-            by-test (λ (o : Option ℕ). found? o ≡ false) (λ m. ap found? (reached-quiet p s (exact-marks p s l .0 m))) (λ m. refl)
+        mark-quiet p s l = mark-none x map p s (λ m. reached-quiet p s (exact-marks p s l .0 m))
 
         start-quiet : startVerdict map ≡ Accepted
         unfolding startVerdict choose
@@ -130,9 +128,9 @@ module _ (x : Submission) where
                 rw (exact-marks 0 main l .1 (origin l))
 
         pub complete-verdict : verdictOf x map ≡ Accepted
-        unfolding verdictOf firstOf placeVerdict pairVerdict tooWide refusedPair
+        unfolding verdictOf firstOf placeVerdict pairVerdict refusedPair
         complete-verdict =
-            let narrow : lowest (tooWide map) (size x) ≡ none = lowest-none (tooWide map) (size x) .1 (λ p l. le-ltb _ _ (exact .narrow p l)) in
+            let narrow = none-wide x map .1 (exact .narrow) in
             let pairs : lowest (refusedPair x map) (2 * size x) ≡ none =
             lowest-none (refusedPair x map) (2 * size x) .1 (λ k l. mark-quiet (placeOf k) (stateOf k) (omega arith)) in
             rw (narrow, start-quiet, pairs)

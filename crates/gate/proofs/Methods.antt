@@ -11,10 +11,10 @@ use Rattle.word.specs.Promises.{Within}
 use Rattle.word.specs.declared.reading.Reading.{Reading}
 use Rattle.word.specs.declared.reading.Reading.the-variants.{Increasing, NonIncreasing, Sli, Return, Long, OldJump, Jump, Call, Reserved, Refused}
 use Rattle.word.proofs.First.{by-test}
+use Rattle.word.proofs.Lowest.{none-found}
 use Rattle.gate.specs.Parameters.{parametersOf, methodFor, lacking, Fit}
 use Rattle.gate.specs.declared.parameters.Parameters.{Parameters}
 use Rattle.gate.proofs.Scans.{Passed, onward, passes}
-use Rattle.gate.proofs.Cases.{none-found}
 
 -- each method is one of 2,048, as the first is
 pub method-below : (ps : Parameters) (k : ℕ) → ps .method < 2048 → methodFor ps k < 2048

@@ -15,7 +15,7 @@ use Rattle.word.proofs.Lowest.{lowest-some}
 use Rattle.gate.specs.Permit.{setBits, countOf}
 use Rattle.gate.specs.Map.{marked, tooWide, among, unmarked}
 use Rattle.gate.specs.Reason.{Pair, nexts, nextCases, reasonCases, Submission, submission, size, commandAt, firstReason, reasonAt}
-use Rattle.gate.specs.Judging.{firstOf, placeVerdict, startVerdict, atMark, placeOf, stateOf, refusedPair, rejected, pairVerdict, verdictOf, judgeCases, refusing, settingOf, judgeOf}
+use Rattle.gate.specs.Judging.{firstOf, placeVerdict, startVerdict, atMark, placeOf, stateOf, refusedPair, rejected, pairVerdict, verdictOf, judgeCases, refusing, settingOf, judged, judgeOf}
 use Rattle.gate.specs.Answers.{number, verdictRefusal, values}
 use Rattle.gate.specs.Packed.{reasonIn, refusalIn, placeIn, packed, on}
 use Rattle.gate.specs.Promises.{Bytes, Unpacked, GivesBack}
@@ -101,8 +101,8 @@ unfolding judgeOf refusedOr countOf
 judgement-small level sli bytes map list h = go (first (judgeCases 1048576 level sli bytes map list)) refl
   where
     go : (o : Option ℕ) → first (judgeCases 1048576 level sli bytes map list) ≡ o
-        → Small (refusedOr refusing o (record { verdict = verdictOf (submission (settingOf level sli) bytes list) map; count = countOf list }) .verdict)
-        × (refusedOr refusing o (record { verdict = verdictOf (submission (settingOf level sli) bytes list) map; count = countOf list }) .count < 2 ^ 16)
+        → Small (refusedOr refusing o (judged level sli bytes map list) .verdict)
+        × (refusedOr refusing o (judged level sli bytes map list) .count < 2 ^ 16)
     go none e =
         let c = count-small list h 2048 in
         (verdict-small (submission (settingOf level sli) bytes list) map (fits level sli bytes map list e .words), omega arith)

@@ -13,7 +13,7 @@ use Rattle.word.proofs.First.{by-test, one-outcome}
 use Rattle.word.proofs.Settings.{told-first, told-plain}
 use Rattle.channel.proofs.Refusals.{refused-is, accepted-is}
 use Rattle.gate.specs.Reason.{Submission, submission}
-use Rattle.gate.specs.Judging.{judgeCases, firstOf, placeVerdict, startVerdict, atMark, placeOf, stateOf, rejected, pairVerdict, verdictOf, refusing, settingOf, judgeOf}
+use Rattle.gate.specs.Judging.{judgeCases, firstOf, placeVerdict, startVerdict, atMark, placeOf, stateOf, rejected, pairVerdict, verdictOf, refusing, settingOf, judged, judgeOf}
 use Rattle.gate.specs.Answers.{number, verdictRefusal}
 use Rattle.gate.specs.Contracts.{Judges}
 use Rattle.gate.specs.Promises.{judgePlain, Refused, One, Counted, Complete, NoneBad}
@@ -21,7 +21,7 @@ use Rattle.gate.specs.declared.judging.Verdict.{Verdict}
 use Rattle.gate.specs.declared.judging.Verdict.the-variants as verdict
 use Rattle.gate.specs.declared.judging.Judgement.{Judgement}
 use Rattle.gate.proofs.Words.{words-length}
-use Rattle.gate.proofs.Table.{judge-agree, judged, none-told, passed}
+use Rattle.gate.proofs.Table.{judge-agree, none-told, passed}
 use Rattle.gate.proofs.Counted.{count-pairs}
 use Rattle.gate.proofs.Clean.{clean}
 use Rattle.gate.proofs.Complete.{complete-verdict, reached-none-bad}

@@ -20,6 +20,7 @@ use Rattle.puller.specs.declared.object.Found.the-variants as found
 use Rattle.puller.specs.declared.object.Object.{Object}
 use Rattle.puller.specs.declared.record.Puller.{Puller}
 use Rattle.puller.specs.declared.taking.Taken.{Taken}
+use Rattle.puller.proofs.Telling.{Tells, told, takes-tell}
 use Rattle.pusher.specs.Record as pusher-record
 use Rattle.pusher.specs.Moving as pusher
 use Rattle.pusher.specs.declared.record.Setup.{Setup}
@@ -34,42 +35,6 @@ use Rattle.channel.specs.declared.stepping.Answer.the-variants as answer
 use Rattle.channel.specs.declared.stepping.Stepped.{Stepped}
 use Rattle.channel.proofs.Said.{by-role}
 use Rattle.gate.specs.Promises.{GoesOn, ReadAs}
-
--- an event tells the method, or that it failed
-abbrev Tells : Method → Event → Type 0
-Tells m e = (e ≡ Plain kind.Error) ⊎ ((k : Kind) × (n : ℕ) × (e ≡ Of k (record { subchannel = m .subchannel; method = m .method; parameter = n })))
-
-told : (m : Method) (k : Kind) (n : ℕ) → Tells m (Of k (record { subchannel = m .subchannel; method = m .method; parameter = n }))
-told m k n = inr (k, n, refl)
-
--- what the puller says of a method that it takes
-module _ (level : ℕ) (p : Puller) (m : Method) where
-  abbrev Says : Taken → Type 0
-  Says t = Tells m (t .event)
-
-  looking : (f : Found) (next : Object → Taken) → ((o : Object) → Says (next o)) → Says (puller.lookingUp p f next)
-  unfolding puller.lookingUp
-  looking (found.Object o) next h = h o
-  looking found.Nothing next h = inl refl
-
-  forwarding : (n : ℕ) → Says (puller.forwardOf p m n)
-  unfolding puller.forwardOf
-  forwarding n = by-test Says (λ e. inl refl) (λ e. told m _ _)
-
-  acts : (t sems : List ℕ) (d : puller.Deed) → Says (puller.act level p m t sems d .taken)
-  unfolding puller.act puller.bindOf puller.bindTo puller.dmaOf puller.dmaTo puller.offsetOf puller.acquireOf puller.releaseOf puller.forwardObjectOf
-  acts t sems puller.binds = looking (lookupOf t (m .parameter)) (puller.bindTo p m) (λ o. by-test Says (λ e. inl refl) (λ e. told m _ _))
-  acts t sems puller.refers = told m _ _
-  acts t sems puller.logs = told m _ _
-  acts t sems puller.bindsSemaphore = looking (lookupOf t (m .parameter)) (puller.dmaTo level p m) (λ o. by-test Says (λ e. inl refl) (λ e. told m _ _))
-  acts t sems puller.offsets =
-      by-test Says (λ l. by-test Says (λ e. inl refl) (λ e. told m _ _)) (λ l. by-test Says (λ e. inl refl) (λ e. by-test Says (λ f. inl refl) (λ f. told m _ _)))
-  acts t sems puller.acquires =
-      by-test Says (λ e. inl refl) (λ e. by-test Says (λ f. inl refl) (λ f. by-test Says (λ g. told m _ _) (λ g. told m _ _)))
-  acts t sems puller.releases =
-      by-test (λ (r : puller.Result). Says (r .taken)) (λ e. inl refl) (λ e. by-test (λ (r : puller.Result). Says (r .taken)) (λ f. inl refl) (λ f. told m _ _))
-  acts t sems puller.forwards = forwarding (m .parameter)
-  acts t sems puller.looksAndForwards = looking (lookupOf t (m .parameter)) (λ (o : Object). puller.forwardOf p m (o .address)) (λ o. forwarding (o .address))
 
 -- what a step that goes on says, by the role of the pusher's move
 module _ (c : Channel) (ws es t sems : List ℕ) where
@@ -120,13 +85,13 @@ module _ (c : Channel) (ws es t sems : List ℕ) where
   run-tells p w e same h = rw same at h
 
   parameter-speaks : (p : Pusher) (w : ℕ) → p .run ≡ c .pusher .run → Speaks pusher.submits (left (pusher.parameterOf (c .setup) p w))
-  unfolding pusher.parameterOf channel.finished puller.takeOf
+  unfolding pusher.parameterOf channel.finished
   parameter-speaks p w e =
       let P : Pushed → Type 0 = λ x. Speaks pusher.submits (left x) in
       by-test P (λ f. (_, refl, inl refl))
       (λ f.
       by-test P (λ g. (_, refl, run-tells p w _ e (told (pusher.methodOf p w) kind.Discard w)))
-      (λ g. (_, refl, run-tells p w _ e (acts (c .setup .setting .level .number) (c .puller) (pusher.methodOf p w) t sems (puller.deedOf (4 * p .run .method))))))
+      (λ g. (_, refl, run-tells p w _ e (takes-tell (c .setup .setting .level .number) (c .puller) (pusher.methodOf p w) t sems))))
 
   speaks : (r : pusher.Role) → Speaks r (left (moved r))
   unfolding pusher.act channel.finished pusher.counted pusher.entered

@@ -15,7 +15,7 @@ use Rattle.word.specs.Reading.{number}
 use Rattle.word.specs.declared.reading.Reading.{Reading}
 use Rattle.word.specs.declared.reading.Reading.the-variants.{Increasing, NonIncreasing, Sli, Return, Long, OldJump, Jump, Call, Reserved, Refused}
 use Rattle.word.proofs.First.{Agree, first-is, by-test, choose-true}
-use Rattle.word.proofs.Lowest.{lowest-none, lowest-some}
+use Rattle.word.proofs.Lowest.{lowest-none, lowest-some, found-none}
 use Rattle.word.proofs.Tests.{not-plain, and-plain, less-plain, equal-plain}
 use Rattle.gate.specs.Map.{main, marked, unmarked, tooWide, starts, among}
 use Rattle.gate.specs.Parameters.{parametersOf, lacking, denied}
@@ -27,9 +27,8 @@ use Rattle.gate.specs.Reasons.{Marks, nextPlain, commandPlain, pairPlain
 use Rattle.gate.specs.declared.judging.Verdict.{Verdict}
 use Rattle.gate.specs.declared.judging.Verdict.the-variants.{Accepted, Rejected}
 use Rattle.gate.specs.declared.judging.Verdict.the-variants as verdict
-use Rattle.gate.proofs.Cases.{found-none}
 use Rattle.gate.proofs.Table.{fits}
-use Rattle.gate.proofs.Clean.{numbered}
+use Rattle.gate.proofs.Clean.{numbered, none-wide, mark-none}
 use Rattle.gate.proofs.Promises.{table-none, judged-is}
 
 -- a test that is made out, either way
@@ -188,12 +187,10 @@ module _ (x : Submission) (map : List ℕ) (same : length map ≡ size x) (narro
   mark-reason p s m = choose-true (marked-plain p s .1 m) _ _
 
   quiet-mark : (p : ℕ) (s : Bool) → (Marks map p s → (n : ℕ) → FirstIs (pairPlain x map p s) n → ⊥) → found? (atMark x map p s) ≡ false
-  unfolding atMark found?
-  quiet-mark p s h =
-      by-test (λ (o : Option ℕ). found? o ≡ false) (λ m. go (reasonAt x map p s) refl (h (marked-plain p s .0 m))) (λ m. refl)
+  quiet-mark p s h = mark-none x map p s (λ m. go (reasonAt x map p s) refl (h (marked-plain p s .0 m)))
     where
-      go : (o : Option ℕ) → reasonAt x map p s ≡ o → ((n : ℕ) → FirstIs (pairPlain x map p s) n → ⊥) → found? (reasonAt x map p s) ≡ false
-      go none e n = ap found? e
+      go : (o : Option ℕ) → reasonAt x map p s ≡ o → ((n : ℕ) → FirstIs (pairPlain x map p s) n → ⊥) → reasonAt x map p s ≡ none
+      go none e n = e
       go (some k) e n = absurd (n k (reason-plain p s k .0 e))
 
   -- what a found pair says
@@ -267,13 +264,6 @@ module _ (x : Submission) (map : List ℕ) (same : length map ≡ size x) where
     λ w. lowest-some (tooWide map) (size x) p .1 (w .within, lt-ltb _ _ (w .wide), λ q l. le-ltb _ _ (w .lowest q l)),
   )
 
-  none-wide : lowest (tooWide map) (size x) ≡ none ↔ NoneWide x map
-  unfolding tooWide
-  none-wide = (
-    λ e q l. ltb-false _ _ (lowest-none (tooWide map) (size x) .0 e q l),
-    λ h. lowest-none (tooWide map) (size x) .1 (λ q l. le-ltb _ _ (h q l)),
-  )
-
   start-plain : NoneWide x map → not (eqb (length map) 0) && not (marked map 0 main) ≡ true ↔ NoStart x map
   start-plain narrow =
       let some-word = not-plain (eqb (length map) 0) (equal-plain (length map) 0) in
@@ -303,13 +293,13 @@ module _ (x : Submission) (map : List ℕ) (same : length map ≡ size x) where
       by-start false t narrow e = inr (narrow, inr (λ h. false≢true (sym t ∙ start-plain narrow .1 h), pair-first x map same narrow n p .0 e))
 
       by-bytes : (o : Option ℕ) → lowest (tooWide map) (size x) ≡ o → firstOf (placeVerdict o) (firstOf (startVerdict map) pairs) ≡ Rejected (record { number = n }) p → Against x map n p
-      by-bytes none q e = by-start startless refl (none-wide .0 q) e
+      by-bytes none q e = by-start startless refl (none-wide x map .0 q) e
       by-bytes (some w) q e = let z = rejected-same MAP_BYTE n w p e in inl (sym (z .0), subst (λ (y : ℕ). WideByte x map y) (z .1) (wide-plain w .0 q))
 
       back : Against x map n p → firstOf (placeVerdict (lowest (tooWide map) (size x))) (firstOf (startVerdict map) pairs) ≡ Rejected (record { number = n }) p
       back (inl w) = rw (wide-plain p .1 (w .1), w .0)
-      back (inr (narrow, inl h)) = rw (none-wide .1 narrow, start-plain narrow .1 (h .2), h .0, h .1)
-      back (inr (narrow, inr h)) = rw (none-wide .1 narrow, started narrow (h .0)) (pair-first x map same narrow n p .1 (h .1))
+      back (inr (narrow, inl h)) = rw (none-wide x map .1 narrow, start-plain narrow .1 (h .2), h .0, h .1)
+      back (inr (narrow, inr h)) = rw (none-wide x map .1 narrow, started narrow (h .0)) (pair-first x map same narrow n p .1 (h .1))
 
 -- a verdict tells its reason and place
 told-rejected : (v : Verdict) (n p : ℕ) → ((answers.number v ≡ some n) × (answers.values v ≡ p ∷ [])) ↔ (v ≡ Rejected (record { number = n }) p)

@@ -14,7 +14,7 @@ use Rattle.word.specs.declared.setting.Check.the-variants.{Fine, Refused}
 use Rattle.word.proofs.Settings.{hit, miss, no-more, refused-by, passed-by}
 use Rattle.gate.specs.Permit.{countOf}
 use Rattle.gate.specs.Reason.{submission}
-use Rattle.gate.specs.Judging.{lengthRefused, verdictOf, refusing, settingOf, judgeOf}
+use Rattle.gate.specs.Judging.{lengthRefused, verdictOf, refusing, settingOf, judged, judgeOf}
 use Rattle.gate.specs.declared.judging.Judgement.{Judgement}
 
 -- none of three tests fails
@@ -31,10 +31,6 @@ lengths bytes map list h =
     (omega (arith, eqb-true (bytes % 4) 0 (t .0), eqb-true map (bytes / 4) (t .1)), eqb-true list 2048 (t .2))
 
 module _ (level : ℕ) (sli : Bool) (bytes map list : List ℕ) where
-  -- what is judged where nothing refuses it
-  abbrev judged : Judgement
-  judged = record { verdict = verdictOf (submission (settingOf level sli) bytes list) map; count = countOf list }
-
   -- the tests that follow those of the setting
   abbrev length-case : List Case
   length-case = LENGTH when lengthRefused (length bytes) (length map) (length list) ∷ []
@@ -43,32 +39,32 @@ module _ (level : ℕ) (sli : Bool) (bytes map list : List ℕ) where
   size-case = SIZE when ltb (4 * 1048576) (length bytes) ∷ length-case
 
   -- MODE refuses no setting in NV04-style: a judgement's tests are the setting's, and then these
-  by-setting-first : judgeOf level sli bytes map list ≡ refusedOr refusing (first (settingCases (settingOf level sli) ++ size-case)) judged
+  by-setting-first : judgeOf level sli bytes map list ≡ refusedOr refusing (first (settingCases (settingOf level sli) ++ size-case)) (judged level sli bytes map list)
   unfolding judgeOf first choose
   by-setting-first = refl
 
   -- the setting refuses it;
   pub by-setting : (x : Refusal) → checkOf (settingOf level sli) ≡ Refused x → refusing x ≡ judgeOf level sli bytes map list
-  by-setting x e = sym (by-setting-first ∙ refused-by (settingOf level sli) size-case refusing judged x e)
+  by-setting x e = sym (by-setting-first ∙ refused-by (settingOf level sli) size-case refusing (judged level sli bytes map list) x e)
 
   module _ (fine : checkOf (settingOf level sli) ≡ Fine) where
     -- the tests that are left where the setting does not,
-    past-setting : judgeOf level sli bytes map list ≡ refusedOr refusing (first size-case) judged
-    past-setting = by-setting-first ∙ passed-by (settingOf level sli) size-case refusing judged fine
+    past-setting : judgeOf level sli bytes map list ≡ refusedOr refusing (first size-case) (judged level sli bytes map list)
+    past-setting = by-setting-first ∙ passed-by (settingOf level sli) size-case refusing (judged level sli bytes map list) fine
 
     -- there are too many words;
     pub by-size : 4 * 1048576 < length bytes → refusing (record { number = SIZE }) ≡ judgeOf level sli bytes map list
-    by-size h = sym (past-setting ∙ hit SIZE length-case refusing judged (lt-ltb _ _ h))
+    by-size h = sym (past-setting ∙ hit SIZE length-case refusing (judged level sli bytes map list) (lt-ltb _ _ h))
 
     module _ (small : length bytes ≤ 4 * 1048576) where
       -- the test that is left where there are not,
-      past-size : judgeOf level sli bytes map list ≡ refusedOr refusing (first length-case) judged
-      past-size = past-setting ∙ miss SIZE length-case refusing judged (le-ltb _ _ small)
+      past-size : judgeOf level sli bytes map list ≡ refusedOr refusing (first length-case) (judged level sli bytes map list)
+      past-size = past-setting ∙ miss SIZE length-case refusing (judged level sli bytes map list) (le-ltb _ _ small)
 
       -- there are no such lengths;
       pub by-length : lengthRefused (length bytes) (length map) (length list) ≡ true → refusing (record { number = LENGTH }) ≡ judgeOf level sli bytes map list
-      by-length h = sym (past-size ∙ hit LENGTH [] refusing judged h)
+      by-length h = sym (past-size ∙ hit LENGTH [] refusing (judged level sli bytes map list) h)
 
       -- or nothing refuses it
-      pub not-refused : lengthRefused (length bytes) (length map) (length list) ≡ false → judged ≡ judgeOf level sli bytes map list
-      not-refused h = sym (past-size ∙ miss LENGTH [] refusing judged h ∙ no-more refusing judged)
+      pub not-refused : lengthRefused (length bytes) (length map) (length list) ≡ false → judged level sli bytes map list ≡ judgeOf level sli bytes map list
+      not-refused h = sym (past-size ∙ miss LENGTH [] refusing (judged level sli bytes map list) h ∙ no-more refusing (judged level sli bytes map list))

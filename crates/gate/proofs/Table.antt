@@ -17,7 +17,7 @@ use Rattle.channel.proofs.Refusals.{NoneOf, none-of}
 use Rattle.gate.specs.Lent.{wordsOf}
 use Rattle.gate.specs.Permit.{countOf}
 use Rattle.gate.specs.Reason.{submission}
-use Rattle.gate.specs.Judging.{judgeCases, verdictOf, refusing, settingOf, judgeOf}
+use Rattle.gate.specs.Judging.{judgeCases, judged, verdictOf, refusing, settingOf, judgeOf}
 use Rattle.gate.specs.Contracts.{Judges}
 use Rattle.gate.specs.Promises.{judgePlain}
 use Rattle.gate.specs.declared.judging.Verdict.the-variants.{Accepted}
@@ -85,9 +85,6 @@ module _ (level : ℕ) (sli : Bool) (bytes map list : List ℕ) where
       }
 
   -- what is accepted has passed the table, and the verdict is the judgement's
-  abbrev pub judged : Judgement
-  judged = record { verdict = verdictOf (submission (settingOf level sli) bytes list) map; count = countOf list }
-
   pub passed : (r : Judgement) → Judges level sli bytes map list r → r .verdict ≡ Accepted → Fits × (verdictOf (submission (settingOf level sli) bytes list) map ≡ Accepted)
   unfolding judgeOf refusedOr
   passed r j a = go (first (judgeCases 1048576 level sli bytes map list)) refl (sym (ap (λ (y : Judgement). y .verdict) j) ∙ a)
@@ -95,7 +92,7 @@ module _ (level : ℕ) (sli : Bool) (bytes map list : List ℕ) where
       go :
           (o : Option ℕ)
           → first (judgeCases 1048576 level sli bytes map list) ≡ o
-          → refusedOr refusing o judged .verdict ≡ Accepted
+          → refusedOr refusing o (judged level sli bytes map list) .verdict ≡ Accepted
           → Fits × (verdictOf (submission (settingOf level sli) bytes list) map ≡ Accepted)
       go none e h = (fits e, h)
       go (some n) e h = let z : _≡_ {A = ℕ} 0 1 = cc in absurd (omega arith)

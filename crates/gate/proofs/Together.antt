@@ -13,11 +13,10 @@ use lib.ListN.{length, getD}
 use lib.Pow.{pow-pos}
 use borrow.Author.Tests.{eqb-true, eqb-false, eq-eqb, le-ltb, not-false}
 use Rattle.word.specs.Lowest.{lowest, found?}
-use Rattle.word.proofs.Lowest.{lowest-none}
+use Rattle.word.proofs.Lowest.{lowest-none, found-none, none-found}
 use Rattle.gate.specs.Map.{tooWide, starts, anyStart, allBits}
 use Rattle.gate.specs.Judging.{placeVerdict}
 use Rattle.gate.specs.declared.judging.Verdict.the-variants.{Accepted}
-use Rattle.gate.proofs.Cases.{found-none, none-found}
 
 -- one byte more
 pub bits-more : (part : List ℕ) (n bits : ℕ) → bits ≡ allBits part n → bitOr bits (getD part n 0) ≡ allBits part (n + 1)

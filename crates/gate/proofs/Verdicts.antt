@@ -25,7 +25,7 @@ use Rattle.gate.specs.declared.judging.Verdict.{Verdict}
 use Rattle.gate.specs.declared.judging.Verdict.the-variants.{Accepted, Rejected, Refused}
 use Rattle.gate.proofs.judging.Verdict.{the-type}
 use Rattle.gate.proofs.Scans.{Passed, onward, met, unmet}
-use Rattle.gate.proofs.Clean.{unstarted}
+use Rattle.gate.proofs.Clean.{unstarted, mark-none}
 
 -- Reason 1, of the bytes up to k.
 module _ (map : List ℕ) (n k : ℕ) (passed : Passed (tooWide map) n k) where
@@ -46,8 +46,7 @@ module _ (map : List ℕ) (n k : ℕ) (passed : Passed (tooWide map) n k) where
 
 -- at a place that is no start nothing is found
 unmarked-quiet : (x : Submission) (map : List ℕ) (p : ℕ) (s : Bool) → getD map p 0 ≡ 0 → found? (atMark x map p s) ≡ false
-unfolding atMark found?
-unmarked-quiet x map p s z = by-test (λ (o : Option ℕ). found? o ≡ false) (λ m. absurd (unstarted x map p s z m)) (λ m. refl)
+unmarked-quiet x map p s z = mark-none x map p s (λ m. absurd (unstarted x map p s z m))
 
 -- The other reasons, of the pairs up to k.
 module _ (x : Submission) (map : List ℕ) (n k : ℕ) (passed : Passed (refusedPair x map) n k) where

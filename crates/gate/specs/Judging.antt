@@ -80,7 +80,9 @@ refusing n = record { verdict = Refused n; count = 0 }
 abbrev pub settingOf : ℕ → Bool → Setting
 settingOf level sli = record { level = record { number = level }; mode = record { number = 0 }; sli = sli }
 
+-- what is judged where nothing is refused
+abbrev pub judged : ℕ → Bool → List ℕ → List ℕ → List ℕ → Judgement
+judged level sli bytes map list = record { verdict = verdictOf (submission (settingOf level sli) bytes list) map; count = countOf list }
+
 unfoldable pub judgeOf : ℕ → Bool → List ℕ → List ℕ → List ℕ → Judgement
-judgeOf level sli bytes map list =
-    refusedOr refusing (first (judgeCases 1048576 level sli bytes map list))
-    (record { verdict = verdictOf (submission (settingOf level sli) bytes list) map; count = countOf list })
+judgeOf level sli bytes map list = refusedOr refusing (first (judgeCases 1048576 level sli bytes map list)) (judged level sli bytes map list)

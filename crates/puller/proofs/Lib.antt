@@ -5,3 +5,4 @@ pub mod Causes
 pub mod Failing
 pub mod Sentences
 pub mod Promises
+pub mod Telling

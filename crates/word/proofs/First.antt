@@ -61,6 +61,20 @@ append-none cs ds e = go (first cs) refl (sym (first-append cs ds) ∙ e)
     go none d e = (d, e)
     go (some n) d e = let z : _≡_ {A = ℕ} 0 1 = cc in absurd (omega arith)
 
+-- no case of a list holds, which is so exactly if none is the first
+abbrev pub Fails : List Case → Type 0
+Fails [] = Unit {0}
+Fails (c ∷ cs) = (c .holds ≡ false) × Fails cs
+
+pub none-fails : (cs : List Case) → first cs ≡ none → Fails cs
+none-fails [] e = tt
+none-fails (c ∷ cs) e = let x = first-none c cs e in (x .0, none-fails cs (x .1))
+
+pub fails-none : (cs : List Case) → Fails cs → first cs ≡ none
+unfolding first choose
+fails-none [] f = refl
+fails-none (c ∷ cs) f = rw (f .0) (fails-none cs (f .1))
+
 -- tests and plain conditions that say the same, one by one
 abbrev pub Agree : List Case → List Plain → Type 0
 Agree [] [] = Unit {0}

@@ -1,14 +1,14 @@
 -- The lowest number below n that passes a test: what it says, and how a loop comes to it. Assumes nothing.
 use Prim.Native.Nat.{ℕ, zero, suc, _+_, _<_}
 use mathlib.Core.Path.{_≡_, refl, sym, ap, _∙_}
-use mathlib.Core.Bool.{Bool, true, false}
+use mathlib.Core.Bool.{Bool, true, false, false≢true}
 use mathlib.Core.Logic.{_⊎_, inl, inr, ⊎-elim, _↔_}
 use mathlib.Core.Option.{Option, none, some}
 use native.Mathlib.Nat.{eq-or-lt-of-le}
 use native.Mathlib.Numerals.{add-one}
 use native.Mathlib.Omega.{arith}
 use Rattle.word.specs.First.{choose}
-use Rattle.word.specs.Lowest.{keep, lowest}
+use Rattle.word.specs.Lowest.{keep, lowest, found?}
 
 -- none of two, and k of two: of the first, or of the second where the first has none
 keep-none : (a b : Option ℕ) → keep a b ≡ none → (a ≡ none) × (b ≡ none)
@@ -72,3 +72,16 @@ module _ (f : ℕ → Bool) where
             (keep-some (lowest f n) (choose (f n) (some n) none) k e),
         λ h. lowest-at (suc n) k (lowest-none k .1 (h .2)) (h .0) (h .1),
       )
+
+-- no number below n passes a test that is found to hold nowhere, and the other way round
+pub found-none : (f : ℕ → Bool) (n : ℕ) → found? (lowest f n) ≡ false → (k : ℕ) → k < n → f k ≡ false
+unfolding found?
+found-none f n e = go (lowest f n) refl e
+  where
+    go : (o : Option ℕ) → lowest f n ≡ o → found? o ≡ false → (k : ℕ) → k < n → f k ≡ false
+    go none q e = lowest-none f n .0 q
+    go (some j) q e = absurd (false≢true (sym e))
+
+pub none-found : (f : ℕ → Bool) (n : ℕ) → ((k : ℕ) → k < n → f k ≡ false) → found? (lowest f n) ≡ false
+unfolding found?
+none-found f n h = rw (lowest-none f n .1 h)
