@@ -10,3 +10,5 @@ pub mod Keeping
 pub mod OpensPlainly
 pub mod Kept
 pub mod Promises
+pub mod Carried
+pub mod ReadAs

@@ -1,6 +1,6 @@
 -- The promises about a channel, each a statement that is proved under its own name in proofs/. They speak of the public
 -- functions through their contracts (Contracts.antt): of everything that a contract allows.
-use Prim.Native.Nat.{ℕ, _%_, _^_, _≤_, _<_}
+use Prim.Native.Nat.{ℕ, _*_, _/_, _%_, _^_, _≤_, _<_}
 use mathlib.Core.Path.{_≡_}
 use mathlib.Core.Bool.{Bool, true, false}
 use mathlib.Core.List.{List, [], _∷_}
@@ -11,10 +11,11 @@ use Rattle.word.specs.First.{Plain, _if_, FirstIs}
 use Rattle.word.specs.Setting.{LEVEL, MODE, ORDER, SLI, TABLE, DUPLICATE, PUT, SIZE, FIELD, STATE}
 use Rattle.word.specs.Answers.{checkRefusal}
 use Rattle.word.specs.declared.setting.Check.the-variants as check
+use Rattle.event.specs.declared.Kind.{Kind}
 use Rattle.event.specs.declared.Kind.the-variants as kind
 use Rattle.event.specs.declared.Method.{Method}
 use Rattle.event.specs.declared.Event.{Event}
-use Rattle.event.specs.declared.Event.the-variants.{Plain as Saying}
+use Rattle.event.specs.declared.Event.the-variants.{Of, Plain as Saying}
 use Rattle.puller.specs.Record as puller-record
 use Rattle.puller.specs.Contracts.{Takes, Retries}
 use Rattle.puller.specs.Promises as puller
@@ -31,6 +32,7 @@ use Rattle.pusher.specs.declared.moving.Did.the-variants as did
 use Rattle.pusher.specs.declared.moving.Pushed.{Pushed}
 use Rattle.channel.specs.Answers.{openingRefusal, stepRefusal}
 use Rattle.channel.specs.Contracts.{Opens, Puts, StepsTo}
+use Rattle.channel.specs.Stepping.{moves, role}
 use Rattle.channel.specs.declared.record.Channel.{Channel}
 use Rattle.channel.specs.declared.opening.Opening.the-variants as opening
 use Rattle.channel.specs.declared.opening.Opened.{Opened}
@@ -361,6 +363,54 @@ NoOther =
     → (c : Channel) (ws es t sems exit : List ℕ) (r : Stepped)
     → R c ws es t sems r exit
     → StepsTo c ws es t sems r exit
+
+-- the step goes on to the pusher's move: nothing has stopped the channel, and no acquire waits
+abbrev pub GoesOn : Channel → Type 0
+GoesOn c = role c ≡ moves
+
+-- A step is at most one move of the pusher: the puller leaves the pusher's record, and nothing changes the set-up.
+abbrev pub AtMostOneMove : Type 0
+AtMostOneMove =
+    (c : Channel) (ws es t sems exit : List ℕ) (r : Stepped) (x : Pushed)
+    → StepsTo c ws es t sems r exit
+    → Moves (c .setup) (c .pusher) ws es x
+    → (r .channel .setup ≡ c .setup) × ((r .channel .pusher ≡ c .pusher) ⊎ (GoesOn c × (r .channel .pusher ≡ x .pusher)))
+
+-- What 'read as' is by place and event. Of a step that can be taken:
+pub record ReadAs : Type 0 where
+  -- a word that is read as a command is a lent one, and the step says command or raises an error of the pusher;
+  pub command :
+      (c : Channel) (ws es t sems exit : List ℕ) (r : Stepped)
+      → StepsTo c ws es t sems r exit
+      → Takable c ws t sems
+      → GoesOn c
+      → pusher.ReadsCommand (c .setup) (c .pusher) ws es
+      → (c .pusher .get / 4 < length ws)
+      × ((r .answer ≡ answer.Event (Saying kind.Command)) ⊎ (pusher-record.number (r .channel .pusher .error) ≡ 0 → ⊥))
+  -- one that is read as a parameter is a lent one, and the step tells the method of the run under way or raises an error;
+  pub parameter :
+      (c : Channel) (ws es t sems exit : List ℕ) (r : Stepped)
+      → StepsTo c ws es t sems r exit
+      → Takable c ws t sems
+      → GoesOn c
+      → pusher.ReadsParameter (c .setup) (c .pusher) ws es
+      → (c .pusher .get / 4 < length ws)
+      × ((r .answer ≡ answer.Event (Saying kind.Error))
+      ⊎ ((k : Kind) × (n : ℕ)
+      × (r .answer ≡ answer.Event (Of k (record { subchannel = c .pusher .run .subchannel; method = 4 * c .pusher .run .method; parameter = n })))))
+  -- and where it says command, or tells a method, that is how the word was read
+  pub says-command :
+      (c : Channel) (ws es t sems exit : List ℕ) (r : Stepped)
+      → StepsTo c ws es t sems r exit
+      → Takable c ws t sems
+      → r .answer ≡ answer.Event (Saying kind.Command)
+      → GoesOn c × pusher.ReadsCommand (c .setup) (c .pusher) ws es
+  pub tells-method :
+      (c : Channel) (ws es t sems exit : List ℕ) (k : Kind) (m : Method) (r : Stepped)
+      → StepsTo c ws es t sems r exit
+      → Takable c ws t sems
+      → r .answer ≡ answer.Event (Of k m)
+      → GoesOn c × pusher.ReadsParameter (c .setup) (c .pusher) ws es
 
 -- What the card reads are words of 32 bits.
 abbrev pub Words : List ℕ → Type 0

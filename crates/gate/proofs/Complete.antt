@@ -8,12 +8,12 @@ use mathlib.Core.Option.{Option, none, some}
 use native.Mathlib.Omega.{arith}
 use lib.Dec.{eqb}
 use lib.ListN.{length, getD}
-use borrow.Author.Tests.{eqb-true, eqb-false, eq-eqb, ltb-false, le-ltb}
+use borrow.Author.Tests.{eqb-true, eqb-false, eq-eqb, ltb-false}
 use Rattle.word.specs.First.{choose}
 use Rattle.word.specs.Lowest.{lowest, found?}
-use Rattle.word.proofs.First.{by-test, Fails, none-fails, fails-none}
+use Rattle.word.proofs.First.{Fails, none-fails, fails-none}
 use Rattle.word.proofs.Lowest.{lowest-none, none-found}
-use Rattle.gate.specs.Map.{main, inside, marked, unmarked, tooWide, starts, among}
+use Rattle.gate.specs.Map.{main, inside, marked, unmarked, starts, among}
 use Rattle.gate.specs.Parameters.{parametersOf}
 use Rattle.gate.specs.Reason.{NO_START, nexts, arrivalCases, reasonCases, Submission, size, commandAt, firstReason, reasonAt, flawAt}
 use Rattle.gate.specs.Judging.{firstOf, placeVerdict, startVerdict, atMark, placeOf, stateOf, refusedPair, pairVerdict, verdictOf}

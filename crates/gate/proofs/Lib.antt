@@ -20,5 +20,4 @@ pub mod Moving
 pub mod SoundMoves
 pub mod Carried
 pub mod Sound
-pub mod ReadAs
 pub mod Examples

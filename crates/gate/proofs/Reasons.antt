@@ -14,8 +14,8 @@ use Rattle.word.specs.Lowest.{lowest, found?}
 use Rattle.word.specs.Reading.{number}
 use Rattle.word.specs.declared.reading.Reading.{Reading}
 use Rattle.word.specs.declared.reading.Reading.the-variants.{Increasing, NonIncreasing, Sli, Return, Long, OldJump, Jump, Call, Reserved, Refused}
-use Rattle.word.proofs.First.{Agree, first-is, by-test, choose-true}
-use Rattle.word.proofs.Lowest.{lowest-none, lowest-some, found-none}
+use Rattle.word.proofs.First.{Agree, first-is, choose-true}
+use Rattle.word.proofs.Lowest.{lowest-some, found-none}
 use Rattle.word.proofs.Tests.{not-plain, and-plain, less-plain, equal-plain}
 use Rattle.gate.specs.Map.{main, marked, unmarked, tooWide, starts, among}
 use Rattle.gate.specs.Parameters.{parametersOf, lacking, denied}

@@ -12,10 +12,7 @@ use Rattle.word.specs.Setting.{SIZE, LENGTH, settingCases, refusedOr, checkOf}
 use Rattle.word.specs.declared.setting.Refusal.{Refusal}
 use Rattle.word.specs.declared.setting.Check.the-variants.{Fine, Refused}
 use Rattle.word.proofs.Settings.{hit, miss, no-more, refused-by, passed-by}
-use Rattle.gate.specs.Permit.{countOf}
-use Rattle.gate.specs.Reason.{submission}
-use Rattle.gate.specs.Judging.{lengthRefused, verdictOf, refusing, settingOf, judged, judgeOf}
-use Rattle.gate.specs.declared.judging.Judgement.{Judgement}
+use Rattle.gate.specs.Judging.{lengthRefused, refusing, settingOf, judged, judgeOf}
 
 -- none of three tests fails
 all-three : (x y z : Bool) → not x || (not y || not z) ≡ false → (x ≡ true) × (y ≡ true) × (z ≡ true)

@@ -13,6 +13,7 @@ use Rattle.event.specs.declared.Kind.{Kind}
 use Rattle.event.specs.declared.Method.{Method}
 use Rattle.event.specs.declared.Event.the-variants.{Of}
 use Rattle.pusher.specs.Record.{withPut}
+use Rattle.pusher.specs.Promises.{ReadsParameter}
 use Rattle.pusher.specs.declared.record.Run as pusher-run
 use Rattle.pusher.specs.declared.record.Subroutine.{Subroutine}
 use Rattle.channel.specs.Answers.{openingRefusal, stepRefusal}
@@ -23,14 +24,14 @@ use Rattle.channel.specs.declared.putting.Put.{Put}
 use Rattle.channel.specs.declared.stepping.Answer.the-variants as answer
 use Rattle.channel.specs.declared.stepping.Stepped.{Stepped}
 use Rattle.channel.proofs.Promises as proved
+use Rattle.channel.proofs.ReadAs.{read-as}
 use Rattle.gate.specs.Lent.{wordsOf}
 use Rattle.gate.specs.Judging.{settingOf}
-use Rattle.gate.specs.Promises.{Bytes, ReadsParameter, FreshPusher, Started, Lent, Later, now, step, Run, Sound}
+use Rattle.gate.specs.Promises.{Bytes, FreshPusher, Started, Lent, Later, now, step, Run, Sound}
 use Rattle.gate.proofs.Words.{words-narrow}
 use Rattle.gate.proofs.Table.{Fits, none-told, passed}
 use Rattle.gate.proofs.SoundMoves.{sound-moves}
 use Rattle.gate.proofs.Carried.{later-moved}
-use Rattle.gate.proofs.ReadAs.{read-as}
 
 -- a setting is told by its numbers
 setting-is : (s : Setting) (level : ℕ) (sli : Bool) → s .level .number ≡ level → s .mode .number ≡ 0 → s .sli ≡ sli → s ≡ settingOf level sli

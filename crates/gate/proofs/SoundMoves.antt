@@ -10,6 +10,7 @@ use lib.ListN.{length}
 use borrow.Author.Tests.{eqb-true, not-false}
 use Rattle.pusher.specs.Record.{number, halts}
 use Rattle.pusher.specs.Moving.{Role, commands, submits, role}
+use Rattle.pusher.specs.Promises.{ReadsCommand, ReadsParameter}
 use Rattle.pusher.specs.declared.record.Setup.{Setup}
 use Rattle.pusher.specs.declared.record.Pusher.{Pusher}
 use Rattle.pusher.proofs.Roles.{Facts, facts}
@@ -17,7 +18,7 @@ use Rattle.pusher.proofs.Sentences.{runs}
 use Rattle.gate.specs.Lent.{wordsOf}
 use Rattle.gate.specs.Reason.{Submission, submission, size}
 use Rattle.gate.specs.Judging.{settingOf}
-use Rattle.gate.specs.Promises.{SafePusher, FreshPusher, Moved, unmoved, move, ReadsCommand, ReadsParameter, SoundMoves}
+use Rattle.gate.specs.Promises.{SafePusher, FreshPusher, Moved, unmoved, move, SoundMoves}
 use Rattle.gate.proofs.Table.{passed}
 use Rattle.gate.proofs.Clean.{Clean, clean, unstarted}
 use Rattle.gate.proofs.Moving.{Inv, run-permitted, after, starts-at}

@@ -15,7 +15,6 @@ use Rattle.word.proofs.First.{Agree}
 use Rattle.word.proofs.Tests.{not-plain, or-plain, and-plain, less-plain, equal-plain}
 use Rattle.channel.proofs.Refusals.{NoneOf, none-of}
 use Rattle.gate.specs.Lent.{wordsOf}
-use Rattle.gate.specs.Permit.{countOf}
 use Rattle.gate.specs.Reason.{submission}
 use Rattle.gate.specs.Judging.{judgeCases, judged, verdictOf, refusing, settingOf, judgeOf}
 use Rattle.gate.specs.Contracts.{Judges}

@@ -13,7 +13,6 @@ use types.Run.{OneOf, miss}
 use denote.Enum.Declared.{tagOf}
 use borrow.Author.Tests.{lt-ltb, le-ltb, ltb-true, ltb-false}
 use Rattle.word.specs.Lowest.{lowest, found?}
-use Rattle.word.proofs.First.{by-test}
 use Rattle.word.proofs.Lowest.{lowest-none}
 use Rattle.gate.specs.Map.{tooWide}
 use Rattle.gate.specs.Reason.{MAP_BYTE, Submission, size, findingOf}

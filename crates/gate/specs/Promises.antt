@@ -13,18 +13,17 @@ use Rattle.word.specs.Answers.{checkRefusal}
 use Rattle.event.specs.declared.Kind.{Kind}
 use Rattle.event.specs.declared.Kind.the-variants as kind
 use Rattle.event.specs.declared.Method.{Method}
-use Rattle.event.specs.declared.Event.the-variants.{Of, Plain as Saying}
+use Rattle.event.specs.declared.Event.the-variants.{Of}
 use Rattle.pusher.specs.Record as pusher-record
-use Rattle.pusher.specs.Moving as pusher
 use Rattle.pusher.specs.Contracts.{Moves}
+use Rattle.pusher.specs.Promises.{ReadsCommand, ReadsParameter}
 use Rattle.pusher.specs.declared.record.Setup.{Setup}
 use Rattle.pusher.specs.declared.record.Pusher.{Pusher}
 use Rattle.pusher.specs.declared.moving.Did.the-variants as did
 use Rattle.pusher.specs.declared.moving.Pushed.{Pushed}
 use Rattle.channel.specs.Answers.{openingRefusal, stepRefusal}
-use Rattle.channel.specs.Stepping as channel
 use Rattle.channel.specs.Contracts.{Opens, Puts, StepsTo}
-use Rattle.channel.specs.Promises.{BadTable, Twice, Words, Takable}
+use Rattle.channel.specs.Promises.{BadTable, Twice, Words, GoesOn}
 use Rattle.channel.specs.declared.record.Channel.{Channel}
 use Rattle.channel.specs.declared.opening.Opened.{Opened}
 use Rattle.channel.specs.declared.putting.Put.{Put}
@@ -130,13 +129,6 @@ pub data Moved (s : Setup) (ws : List ℕ) (p : Pusher) : Pusher → Type 0 wher
   unmoved : Moved s ws p p
   move : {q t : Pusher} (es : List ℕ) (x : Pushed) → Moved s ws p q → Moves s q ws es x → t ≡ x .pusher → Moved s ws p t
 
--- the word at the read address is about to be read as a command, or as a parameter: what the move's own definition goes by
-abbrev pub ReadsCommand : Setup → Pusher → List ℕ → List ℕ → Type 0
-ReadsCommand s p ws es = pusher.role s p ws es ≡ pusher.commands
-
-abbrev pub ReadsParameter : Setup → Pusher → List ℕ → List ℕ → Type 0
-ReadsParameter s p ws es = pusher.role s p ws es ≡ pusher.submits
-
 -- a move submits a method: it is handed to the puller, or discarded
 abbrev pub Submits : Pushed → Method → Type 0
 Submits x m = (x .did ≡ did.Submit m) ⊎ (x .did ≡ did.Event (Of kind.Discard m))
@@ -225,18 +217,6 @@ pub data Later (ws : List ℕ) (c : Channel) : Channel → Type 0 where
       → e ≡ r .channel
       → Later ws c e
 
--- the step goes on to the pusher's move: nothing has stopped the channel, and no acquire waits
-abbrev pub GoesOn : Channel → Type 0
-GoesOn c = channel.role c ≡ channel.moves
-
--- A step is at most one move of the pusher: the puller leaves the pusher's record, and nothing changes the set-up.
-abbrev pub AtMostOneMove : Type 0
-AtMostOneMove =
-    (c : Channel) (ws es t sems exit : List ℕ) (r : Stepped) (x : Pushed)
-    → StepsTo c ws es t sems r exit
-    → Moves (c .setup) (c .pusher) ws es x
-    → (r .channel .setup ≡ c .setup) × ((r .channel .pusher ≡ c .pusher) ⊎ (GoesOn c × (r .channel .pusher ≡ x .pusher)))
-
 -- what holds of a channel at any time
 pub record Safe (ws list : List ℕ) (c : Channel) : Type 0 where
   pub no-pusher-error : pusher-record.number (c .pusher .error) ≡ 0
@@ -283,42 +263,6 @@ Sound =
     → r .verdict ≡ Accepted
     → (start : Started level sli (wordsOf bytes))
     → Run level sli (wordsOf bytes) list start
-
--- What 'read as' is by place and event. Of a step that can be taken:
-pub record ReadAs : Type 0 where
-  -- a word that is read as a command is a lent one, and the step says command or raises an error of the pusher;
-  pub command :
-      (c : Channel) (ws es t sems exit : List ℕ) (r : Stepped)
-      → StepsTo c ws es t sems r exit
-      → Takable c ws t sems
-      → GoesOn c
-      → ReadsCommand (c .setup) (c .pusher) ws es
-      → (c .pusher .get / 4 < length ws)
-      × ((r .answer ≡ answer.Event (Saying kind.Command)) ⊎ (pusher-record.number (r .channel .pusher .error) ≡ 0 → ⊥))
-  -- one that is read as a parameter is a lent one, and the step tells the method of the run under way or raises an error;
-  pub parameter :
-      (c : Channel) (ws es t sems exit : List ℕ) (r : Stepped)
-      → StepsTo c ws es t sems r exit
-      → Takable c ws t sems
-      → GoesOn c
-      → ReadsParameter (c .setup) (c .pusher) ws es
-      → (c .pusher .get / 4 < length ws)
-      × ((r .answer ≡ answer.Event (Saying kind.Error))
-      ⊎ ((k : Kind) × (n : ℕ)
-      × (r .answer ≡ answer.Event (Of k (record { subchannel = c .pusher .run .subchannel; method = 4 * c .pusher .run .method; parameter = n })))))
-  -- and where it says command, or tells a method, that is how the word was read
-  pub says-command :
-      (c : Channel) (ws es t sems exit : List ℕ) (r : Stepped)
-      → StepsTo c ws es t sems r exit
-      → Takable c ws t sems
-      → r .answer ≡ answer.Event (Saying kind.Command)
-      → GoesOn c × ReadsCommand (c .setup) (c .pusher) ws es
-  pub tells-method :
-      (c : Channel) (ws es t sems exit : List ℕ) (k : Kind) (m : Method) (r : Stepped)
-      → StepsTo c ws es t sems r exit
-      → Takable c ws t sems
-      → r .answer ≡ answer.Event (Of k m)
-      → GoesOn c × ReadsParameter (c .setup) (c .pusher) ws es
 
 -- Promise 3, its second half.
 

@@ -5,12 +5,12 @@ use Rattle.puller.proofs.Failing as puller-failing
 use Rattle.puller.proofs.Promises as puller
 use Rattle.pusher.proofs.Failing as pusher-failing
 use Rattle.pusher.proofs.Promises as pusher
+use Rattle.channel.proofs.Carried as channel-carried
 use Rattle.channel.proofs.Promises as channel
-use Rattle.gate.proofs.Carried as gate-carried
+use Rattle.channel.proofs.ReadAs as channel-read
 use Rattle.gate.proofs.Examples as gate-examples
 use Rattle.gate.proofs.Packs as gate-packs
 use Rattle.gate.proofs.Promises as gate
-use Rattle.gate.proofs.ReadAs as gate-read
 use Rattle.gate.proofs.Reasons as gate-reasons
 use Rattle.gate.proofs.Sound as gate-sound
 use Rattle.gate.proofs.SoundMoves as gate-moves
@@ -59,8 +59,8 @@ third =
     record {
       sound = gate-sound.sound;
       sound-moves = gate-moves.sound-moves;
-      at-most-one-move = gate-carried.at-most-one-move;
-      read-as = gate-read.read-as;
+      at-most-one-move = channel-carried.at-most-one-move;
+      read-as = channel-read.read-as;
       complete = gate.complete;
       none-bad = gate.none-bad;
       examples = gate-examples.examples;

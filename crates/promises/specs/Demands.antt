@@ -64,9 +64,9 @@ pub record Third : Type 0 where
   pub sound : gate.Sound
   -- of the pusher's moves alone, and how a step comes to one
   pub sound-moves : gate.SoundMoves
-  pub at-most-one-move : gate.AtMostOneMove
+  pub at-most-one-move : channel.AtMostOneMove
   -- what 'reads as' is by place and event
-  pub read-as : gate.ReadAs
+  pub read-as : channel.ReadAs
   pub complete : gate.Complete
   pub none-bad : gate.NoneBad
   -- three submissions that the second half speaks of

@@ -14,7 +14,7 @@ use Rattle.event.specs.declared.Kind.the-variants as kind
 use Rattle.event.specs.declared.Event.the-variants.{Of}
 use Rattle.pusher.specs.Record.{number, withGet, withRun, withSubroutine, withIb, withMain, withActive}
 use Rattle.pusher.specs.Entry.{entryOf}
-use Rattle.pusher.specs.Moving.{quietly, failedBy}
+use Rattle.pusher.specs.Moving.{commands, submits, role, quietly, failedBy}
 use Rattle.pusher.specs.Contracts.{Numbers, Halts, Moves}
 use Rattle.pusher.specs.declared.record.Setup.{Setup}
 use Rattle.pusher.specs.declared.record.Run.{Run}
@@ -309,6 +309,13 @@ Failing =
     → number (r .pusher .error) ≤ 4
     → Past s p q
     → r ≡ failedBy q (r .pusher .error)
+
+-- the word at the read address is about to be read as a command, or as a parameter: what the move's own definition goes by
+abbrev pub ReadsCommand : Setup → Pusher → List ℕ → List ℕ → Type 0
+ReadsCommand s p ws es = role s p ws es ≡ commands
+
+abbrev pub ReadsParameter : Setup → Pusher → List ℕ → List ℕ → Type 0
+ReadsParameter s p ws es = role s p ws es ≡ submits
 
 -- Each contract leaves one outcome.
 pub record One : Type 0 where

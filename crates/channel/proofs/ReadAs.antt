@@ -13,12 +13,7 @@ use Rattle.event.specs.declared.Kind.the-variants as kind
 use Rattle.event.specs.declared.Method.{Method}
 use Rattle.event.specs.declared.Event.{Event}
 use Rattle.event.specs.declared.Event.the-variants.{Plain, Of}
-use Rattle.puller.specs.Object.{lookupOf}
 use Rattle.puller.specs.Taking as puller
-use Rattle.puller.specs.declared.object.Found.{Found}
-use Rattle.puller.specs.declared.object.Found.the-variants as found
-use Rattle.puller.specs.declared.object.Object.{Object}
-use Rattle.puller.specs.declared.record.Puller.{Puller}
 use Rattle.puller.specs.declared.taking.Taken.{Taken}
 use Rattle.puller.proofs.Telling.{Tells, told, takes-tell}
 use Rattle.pusher.specs.Record as pusher-record
@@ -27,14 +22,13 @@ use Rattle.pusher.specs.declared.record.Setup.{Setup}
 use Rattle.pusher.specs.declared.record.Pusher.{Pusher}
 use Rattle.pusher.specs.declared.moving.Pushed.{Pushed}
 use Rattle.pusher.proofs.Roles.{Facts, facts}
 use Rattle.channel.specs.Stepping as channel
 use Rattle.channel.specs.Contracts.{StepsTo}
-use Rattle.channel.specs.Promises.{Takable}
+use Rattle.channel.specs.Promises.{Takable, GoesOn, ReadAs}
 use Rattle.channel.specs.declared.record.Channel.{Channel}
 use Rattle.channel.specs.declared.stepping.Answer.the-variants as answer
 use Rattle.channel.specs.declared.stepping.Stepped.{Stepped}
 use Rattle.channel.proofs.Said.{by-role}
-use Rattle.gate.specs.Promises.{GoesOn, ReadAs}
 
 -- what a step that goes on says, by the role of the pusher's move
 module _ (c : Channel) (ws es t sems : List ℕ) where
