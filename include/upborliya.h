@@ -1,6 +1,7 @@
 /* The gatekeeper for command words of NV04 to NV84 cards, for a host program in C.
  *
- * Link with the archive that `rt staticlib gate` writes. */
+ * Link with the archive that `rt staticlib gate` writes, or where it is installed with what
+ * `pkg-config --libs upborliya` says. */
 #ifndef UPBORLIYA_H
 #define UPBORLIYA_H
 

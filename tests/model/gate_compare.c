@@ -352,11 +352,11 @@ int main(void)
     make_rooms();
     signal(SIGSEGV, fail_at_fault);
     test_nulls();
-    for (unsigned i = 0; i < 200000; i++)
+    for (unsigned i = 0; i < 60000; i++)
         test_drawn(&draw, draw_below(&draw, 65));
-    for (unsigned i = 0; i < 500; i++)
+    for (unsigned i = 0; i < 200; i++)
         test_drawn(&draw, draw_below(&draw, 6000));
-    for (unsigned i = 0; i < 10; i++)
+    for (unsigned i = 0; i < 5; i++)
         test_drawn(&draw, SIZE_LIMIT);
     test_uniforms(&draw);
     test_sizes();

@@ -1,10 +1,10 @@
 // The gatekeeper for a host program in C (include/upborliya.h).
 ghost use mathlib.Core.Path.{_≡_};
-ghost use Rattle.gate.specs.Packed.{packed, reasonIn, refusalIn, placeIn};
-ghost use Rattle.gate.specs.Contracts.{JudgesPacked};
-use crate::judging::Judgement;
-use crate::judging::Verdict;
+ghost use Rattle.rules.specs.Packed.{packed, reasonIn, refusalIn, placeIn};
+ghost use Rattle.rules.specs.Contracts.{JudgesPacked};
 use crate::judging::judge;
+use rules::Judgement;
+use rules::Verdict;
 
 // The judgement in one number. SLI is off for 0, and on for any other number.
 #[no_mangle]

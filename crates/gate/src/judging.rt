@@ -3,38 +3,26 @@ ghost use mathlib.Core.Path.{_≡_};
 ghost use Prim.Native.Nat.{_*_, _≤_, _<_};
 ghost use lib.ListN.{length};
 ghost use Rattle.word.specs.Lowest.{lowest};
-ghost use Rattle.gate.specs.Map.{tooWide};
-ghost use Rattle.gate.specs.Reason.{findingOf, submission};
-ghost use Rattle.gate.specs.Judging.{lengthRefused, placeVerdict, startVerdict, pairVerdict, atMark, refusedPair, verdictOf, refusing};
-ghost use Rattle.gate.specs.Contracts.{Judges};
+ghost use Rattle.rules.specs.Map.{tooWide};
+ghost use Rattle.rules.specs.Reason.{findingOf, submission};
+ghost use Rattle.rules.specs.Judging.{lengthRefused, placeVerdict, startVerdict, pairVerdict, atMark, refusedPair, verdictOf, refusing};
+ghost use Rattle.rules.specs.Contracts.{Judges};
 use crate::map::all_bits;
 use crate::map::is_marked;
 use crate::map::next_start;
 use crate::permit::LIST_BYTES;
 use crate::permit::set_bits;
-use crate::reason::Finding;
-use crate::reason::Reason;
 use crate::reason::reason_at;
+use rules::Finding;
+use rules::Judgement;
+use rules::Reason;
+use rules::Verdict;
 use word::Check;
 use word::Level;
 use word::MOST_WORDS;
 use word::Mode;
 use word::Refusal;
 use word::Setting;
-
-// What is said of a submission: that it is accepted; why it is not, and at which place; or why there is
-// no judgement.
-pub enum Verdict {
-    Accepted,
-    Rejected { reason: Reason, place: u32 },
-    Refused { refusal: Refusal },
-}
-
-// `count` is how many methods the list permits, 0 where there is no judgement.
-pub struct Judgement {
-    pub verdict: Verdict,
-    pub count: u32,
-}
 
 // Judges words, lent as little-endian bytes, with the map of their command starts and the list of
 // permitted methods.

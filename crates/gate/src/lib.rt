@@ -2,14 +2,13 @@
 // permitted methods.
 mod export;
 mod judging;
-mod lent;
 mod map;
 mod parameters;
 mod permit;
 mod reason;
 
 pub use export::upborliya_judge;
-pub use judging::Judgement;
-pub use judging::Verdict;
 pub use judging::judge;
-pub use reason::Reason;
+pub use rules::Judgement;
+pub use rules::Reason;
+pub use rules::Verdict;

@@ -2,7 +2,7 @@
 ghost use mathlib.Core.Path.{_≡_};
 ghost use Prim.Native.Nat.{ℕ, _≤_, _<_};
 ghost use lib.ListN.{length, getD};
-ghost use Rattle.gate.specs.Map.{marked, anyStart, allBits};
+ghost use Rattle.rules.specs.Map.{marked, anyStart, allBits};
 
 // Whether the map marks a place as a start, in main or inside a subroutine.
 pub(crate) fn is_marked(map: &[u8], place: usize, inside: bool) -> bool

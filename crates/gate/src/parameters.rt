@@ -3,19 +3,12 @@ ghost use mathlib.Core.Path.{_≡_};
 ghost use mathlib.Core.Bool.{true, false};
 ghost use Prim.Native.Nat.{ℕ, _<_};
 ghost use lib.ListN.{length};
-ghost use Rattle.gate.specs.Parameters.{parametersOf, methodFor, Fit, lacking, denied};
+ghost use Rattle.rules.specs.Parameters.{parametersOf, methodFor, Fit, lacking, denied};
 use crate::permit::permitted;
+use rules::Parameters;
 use word::Level;
 use word::Reading;
 use word::present;
-
-// `method` is the number of the first one's method, its byte number divided by 4.
-pub(crate) struct Parameters {
-    pub count: u32,
-    pub subchannel: u32,
-    pub method: u32,
-    pub increasing: bool,
-}
 
 // The parameters that follow a command: only a run has any.
 pub(crate) fn parameters_of(command: Reading) -> Parameters

@@ -2,7 +2,7 @@
 ghost use mathlib.Core.Path.{_≡_};
 ghost use Prim.Native.Nat.{_<_};
 ghost use lib.ListN.{length};
-ghost use Rattle.gate.specs.Permit.{permits, countOf};
+ghost use Rattle.rules.specs.Permit.{permits, countOf};
 
 // How many bytes the list has: a bit for each of 2,048 methods of eight subchannels.
 pub(crate) const LIST_BYTES: usize = 2048;

@@ -6,56 +6,20 @@ ghost use mathlib.Core.List.{_∷_, _++_};
 ghost use lib.ListN.{length};
 ghost use Rattle.word.specs.First.{first, _when_};
 ghost use Rattle.word.specs.Promises.{Within};
-ghost use Rattle.gate.specs.Map.{among, unmarked};
-ghost use Rattle.gate.specs.Parameters.{Fit};
-ghost use Rattle.gate.specs.Reason.{CALL_INSIDE, findingOf, call?, parameterCases, arrivalCases, commandCases, submission, reasonAt};
-use crate::lent::word_at;
+ghost use Rattle.rules.specs.Map.{among, unmarked};
+ghost use Rattle.rules.specs.Parameters.{Fit};
+ghost use Rattle.rules.specs.Reason.{CALL_INSIDE, findingOf, call?, parameterCases, arrivalCases, commandCases, submission, reasonAt};
 use crate::map::any_start;
 use crate::map::is_marked;
-use crate::parameters::Parameters;
 use crate::parameters::any_denied;
 use crate::parameters::any_lacking;
 use crate::parameters::parameters_of;
+use rules::Finding;
+use rules::Parameters;
+use rules::Reason;
 use word::Level;
 use word::Reading;
 use word::Setting;
-
-// A reason, by the paper's number.
-pub struct Reason {
-    pub number: u8,
-}
-
-impl Reason {
-    pub const MAP_BYTE: Reason = Reason { number: 1 };
-
-    pub const NO_START: Reason = Reason { number: 2 };
-
-    pub const RESERVED: Reason = Reason { number: 3 };
-
-    pub const CALL_INSIDE: Reason = Reason { number: 4 };
-
-    pub const RETURN_OUTSIDE: Reason = Reason { number: 5 };
-
-    pub const SHORT: Reason = Reason { number: 6 };
-
-    pub const NON_CACHE: Reason = Reason { number: 7 };
-
-    pub const NOT_PERMITTED: Reason = Reason { number: 8 };
-
-    pub const MARKED_PARAMETER: Reason = Reason { number: 9 };
-
-    pub const TARGET_PAST: Reason = Reason { number: 10 };
-
-    pub const NOT_MARKED: Reason = Reason { number: 11 };
-
-    pub const END_INSIDE: Reason = Reason { number: 12 };
-}
-
-// What speaks against a command where it stands, if anything does.
-pub(crate) enum Finding {
-    Nothing,
-    Against { reason: Reason },
-}
 
 // What speaks against the command at a place, in main or inside a subroutine.
 pub(crate) fn reason_at(
@@ -69,7 +33,7 @@ pub(crate) fn reason_at(
     requires { ⌜ (length (now words) ≡ 4 * length (now map)) × (length (now permit) ≡ 2048) × (place < length (now map)) ⌝ }
     ensures { λ r. ⌜ r ≡ findingOf (reasonAt (submission setting (now (words .entry)) (now (permit .entry))) (now (map .entry)) place inside) ⌝ }
 {
-    let command = word::read(setting, word_at(words, place), 0);
+    let command = word::read(setting, word::word_at(words, place), 0);
     let Reading::Call { target } = command else {
         return other_reason(setting.level, map, permit, command, place, inside);
     };

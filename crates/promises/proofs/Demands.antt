@@ -8,12 +8,14 @@ use Rattle.pusher.proofs.Promises as pusher
 use Rattle.channel.proofs.Carried as channel-carried
 use Rattle.channel.proofs.Promises as channel
 use Rattle.channel.proofs.ReadAs as channel-read
-use Rattle.gate.proofs.Examples as gate-examples
-use Rattle.gate.proofs.Packs as gate-packs
-use Rattle.gate.proofs.Promises as gate
-use Rattle.gate.proofs.Reasons as gate-reasons
-use Rattle.gate.proofs.Sound as gate-sound
-use Rattle.gate.proofs.SoundMoves as gate-moves
+use Rattle.rules.proofs.Examples as rules-examples
+use Rattle.rules.proofs.Packs as rules-packs
+use Rattle.rules.proofs.Promises as rules
+use Rattle.rules.proofs.Reasons as rules-reasons
+use Rattle.rules.proofs.Sound as rules-sound
+use Rattle.rules.proofs.SoundMoves as rules-moves
+use Rattle.listing.proofs.Promises as listing
+use Rattle.trace.proofs.Promises as trace
 use Rattle.promises.specs.Demands.{First, Second, Third, Demands}
 
 first : First
@@ -22,14 +24,18 @@ first =
       word-refused = word.refused;
       channel-refused = channel.refused;
       channel-accepted = channel.accepted;
-      gate-refused = gate.refused;
-      gate-reasons = gate-reasons.reasons;
+      gate-refused = rules.refused;
+      listing-refused = listing.refused;
+      trace-refused = trace.refused;
+      gate-reasons = rules-reasons.reasons;
       word-one = word.one;
       event-one = event.one;
       puller-one = puller.one;
       pusher-one = pusher.one;
       channel-one = channel.one;
-      gate-one = gate.one;
+      gate-one = rules.one;
+      listing-one = listing.one;
+      trace-one = trace.one;
     }
 
 second : Second
@@ -50,6 +56,15 @@ second =
       widths = word.widths;
       specials = word.specials;
       one-form = word.one-form;
+      little-endian = word.little-endian;
+      listed = listing.items;
+      stays = listing.stays;
+      gives-back = listing.gives-back;
+      ended = trace.ended;
+      whole = trace.whole;
+      loaded = trace.loaded;
+      printed = trace.printed;
+      printed-cases = trace.cases;
       words = word.numbers;
       entry = pusher.entry-numbers;
     }
@@ -57,15 +72,15 @@ second =
 third : Third
 third =
     record {
-      sound = gate-sound.sound;
-      sound-moves = gate-moves.sound-moves;
+      sound = rules-sound.sound;
+      sound-moves = rules-moves.sound-moves;
       at-most-one-move = channel-carried.at-most-one-move;
       read-as = channel-read.read-as;
-      complete = gate.complete;
-      none-bad = gate.none-bad;
-      examples = gate-examples.examples;
-      counted = gate.counted;
-      gives-back = gate-packs.gives-back;
+      complete = rules.complete;
+      none-bad = rules.none-bad;
+      examples = rules-examples.examples;
+      counted = rules.counted;
+      gives-back = rules-packs.gives-back;
     }
 
 pub demands : Demands

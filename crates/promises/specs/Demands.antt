@@ -8,9 +8,11 @@ use Rattle.event.specs.Promises as event
 use Rattle.puller.specs.Promises as puller
 use Rattle.pusher.specs.Promises as pusher
 use Rattle.channel.specs.Promises as channel
-use Rattle.gate.specs.Promises as gate
-use Rattle.gate.specs.Reasons as reasons
-use Rattle.gate.specs.Examples as examples
+use Rattle.rules.specs.Promises as rules
+use Rattle.rules.specs.Reasons as reasons
+use Rattle.rules.specs.Examples as examples
+use Rattle.listing.specs.Promises as listing
+use Rattle.trace.specs.Promises as trace
 
 -- 1. "Any words, tables, maps and numbers get an answer. No public function has a `requires`. A refusal is one of the paper's
 -- table, given exactly when the table says, and changes neither the channel nor lent memory."
@@ -18,7 +20,9 @@ pub record First : Type 0 where
   pub word-refused : word.Refused
   pub channel-refused : channel.Refused
   pub channel-accepted : channel.Accepted
-  pub gate-refused : gate.Refused
+  pub gate-refused : rules.Refused
+  pub listing-refused : listing.Refused
+  pub trace-refused : trace.Refused
   -- and so is a reason, with its place
   pub gate-reasons : reasons.Reasons
   -- and no contract leaves two outcomes
@@ -27,7 +31,9 @@ pub record First : Type 0 where
   pub puller-one : puller.One
   pub pusher-one : pusher.One
   pub channel-one : channel.One
-  pub gate-one : gate.One
+  pub gate-one : rules.One
+  pub listing-one : listing.One
+  pub trace-one : trace.One
 
 -- 2. "Every step of the channel does what the paper says: event, error, channel, semaphore words. What the writer writes reads
 -- back as the same command; an accepted command writes back to the same words, but for the 8 unused bits of a long count."
@@ -51,6 +57,18 @@ pub record Second : Type 1 where
   pub widths : word.Widths
   pub specials : word.Specials
   pub one-form : word.OneForm
+  pub little-endian : word.LittleEndian
+  -- the listing: which item stands where, where it stays, and that it gives back what the writer wrote
+  pub listed : listing.Items
+  pub stays : listing.Stays
+  pub gives-back : listing.GivesBack
+  -- the program: how a run ends, that every line has room for its text, that every word is read,
+  -- and what is printed of every input
+  pub ended : trace.Ended
+  pub whole : trace.Whole
+  pub loaded : trace.Loaded
+  pub printed : trace.Printed
+  pub printed-cases : trace.Cases
   -- the paper's 'Numbers'
   pub words : numbers.Numbers
   pub entry : pusher.EntryNumbers
@@ -61,19 +79,19 @@ pub record Second : Type 1 where
 -- read address reaches put. And where neither level, SLI setting nor sizes are refused and no place reached by the path rule is
 -- bad, the map that marks exactly the reached places is accepted."
 pub record Third : Type 0 where
-  pub sound : gate.Sound
+  pub sound : rules.Sound
   -- of the pusher's moves alone, and how a step comes to one
-  pub sound-moves : gate.SoundMoves
+  pub sound-moves : rules.SoundMoves
   pub at-most-one-move : channel.AtMostOneMove
   -- what 'reads as' is by place and event
   pub read-as : channel.ReadAs
-  pub complete : gate.Complete
-  pub none-bad : gate.NoneBad
+  pub complete : rules.Complete
+  pub none-bad : rules.NoneBad
   -- three submissions that the second half speaks of
   pub examples : examples.Examples
   -- the count of the answer is the number of permitted methods, and the number for C gives the answer back
-  pub counted : gate.Counted
-  pub gives-back : gate.GivesBack
+  pub counted : rules.Counted
+  pub gives-back : rules.GivesBack
 
 pub record Demands : Type 1 where
   pub first : First

@@ -1,6 +1,8 @@
 pub mod First
 pub mod Lowest
 pub mod Tests
+pub mod Bits
+pub mod Bytes
 pub mod Settings
 pub mod Parts
 pub mod Forms

@@ -1,7 +1,7 @@
 -- The promises about words, each under the name of its statement. Assumes nothing.
 use Prim.Native.Nat.{ℕ, zero, suc, _+_, _^_, _≤_, _<_}
 use mathlib.Core.Path.{_≡_, refl, sym, ap, subst, _∙_}
-use mathlib.Core.Bool.{Bool, true, false, not}
+use mathlib.Core.Bool.{Bool, true, false}
 use mathlib.Core.List.{List, [], _∷_, _++_}
 use mathlib.Core.Option.{Option, none, some}
 use native.Mathlib.Nat.{zero-add, div-one}
@@ -19,7 +19,7 @@ use Rattle.word.specs.Writing.{nextWord, wordsOf, writeCases, writeOf, o
 use Rattle.word.specs.Answers.{checkRefusal, readingRefusal, placeRefusal, writtenRefusal, placeValues, writtenValues}
 use Rattle.word.specs.Contracts.{Writes}
 use Rattle.word.specs.Numbers.{Numbers}
-use Rattle.word.specs.Promises.{settingPlain, sizePlain, writePlain, Within, Available, size, sameWords, Refused, One, AtPlace, ReadBack, WriteBack, Widths, Specials, OneForm}
+use Rattle.word.specs.Promises.{settingPlain, sizePlain, writePlain, Within, Available, size, sameWords, Refused, One, AtPlace, ReadBack, WriteBack, Widths, Specials, OneForm, LittleEndian}
 use Rattle.word.specs.declared.setting.Setting.{Setting}
 use Rattle.word.specs.declared.setting.Check.the-variants as check
 use Rattle.word.specs.declared.reading.Reading.{Reading}
@@ -34,6 +34,7 @@ use Rattle.word.proofs.RoundTrip.{read-by, left, next-is, form-back, co
 use Rattle.word.proofs.Plainly.{field-plain, form-plain, size-is, setting-agree, size-agree, write-agree}
 use Rattle.word.proofs.Writer.{Past, by-words}
 use Rattle.word.proofs.Methods.{specials-plain}
+use Rattle.word.proofs.Bytes.{word-is, word-past}
 
 -- a reading that is not refused: a command, or reserved
 not-refused : (r : Reading) → number r < 9 → readingRefusal r ≡ none
@@ -94,6 +95,7 @@ one =
           let e = one-outcome (p .answer) (q .answer) in
           (e, one-outcome (p .memory ∙ ap (λ (z : Written). outAfter z r out) e) (q .memory));
       present = λ level m a b p q. one-outcome p q;
+      word-at = λ bytes i a b p q. one-outcome p q;
     }
 
 pub numbers : Numbers
@@ -121,7 +123,7 @@ pub record Passed (s : Setting) (r : Reading) (out : List ℕ) (a : Written) : T
   pub room : length (wordsOf r) ≤ length out
   pub words : a ≡ written.Words (length (wordsOf r))
 
-passed : (s : Setting) (r : Reading) (out : List ℕ) (a : Written) → a ≡ writeOf s r (length out) → writtenRefusal a ≡ none → Passed s r out a
+pub passed : (s : Setting) (r : Reading) (out : List ℕ) (a : Written) → a ≡ writeOf s r (length out) → writtenRefusal a ≡ none → Passed s r out a
 unfolding writeOf writtenRefusal
 passed s r out a e h =
     let cases = settingCases s ++ writeCases s r (length out) in
@@ -139,7 +141,7 @@ passed s r out a e h =
     }
 
 -- a command that may be used somewhere is one of the eight
-is-command : (s : Setting) (r : Reading) → Available s r → number r < 9
+pub is-command : (s : Setting) (r : Reading) → Available s r → number r < 9
 unfolding number
 is-command s (Increasing c b m) h = omega arith
 is-command s (NonIncreasing c b m) h = omega arith
@@ -285,3 +287,6 @@ at-index (f ∷ fs) (suc i) h = there (at-index fs i (omega arith))
 pub one-form : OneForm
 unfolding forms
 one-form w i j hi hj e g = sym (the-form _ (at-index forms i hi) w e) ∙ the-form _ (at-index forms j hj) w g
+
+pub little-endian : LittleEndian
+little-endian = record { inside = λ bytes p a c h. c ∙ word-is bytes p h; past = λ bytes p a c h. c ∙ word-past bytes p h }

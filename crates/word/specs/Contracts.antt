@@ -3,11 +3,12 @@ use Prim.Native.Nat.{ℕ}
 use mathlib.Core.Path.{_≡_}
 use mathlib.Core.Bool.{Bool}
 use mathlib.Core.List.{List}
-use lib.ListN.{length}
+use lib.ListN.{length, getD}
 use Rattle.word.specs.Setting.{checkOf}
 use Rattle.word.specs.Reading.{readOf, readAtOf}
 use Rattle.word.specs.Writing.{writeOf, outAfter}
 use Rattle.word.specs.Special.{presentOf}
+use Rattle.word.specs.Lent.{wordsOf}
 use Rattle.word.specs.declared.setting.Level.{Level}
 use Rattle.word.specs.declared.setting.Setting.{Setting}
 use Rattle.word.specs.declared.setting.Check.{Check}
@@ -35,3 +36,7 @@ pub record Writes (s : Setting) (r : Reading) (out : List ℕ) (a : Written) (ex
 -- `present`, of a level and a method's byte number
 abbrev pub Presents : Level → ℕ → Bool → Type 0
 Presents level m r = r ≡ presentOf (level .number) m
+
+-- `word_at`, of words lent as bytes and a place; past the last whole word stands 0
+abbrev pub LentAt : List ℕ → ℕ → ℕ → Type 0
+LentAt bytes p r = r ≡ getD (wordsOf bytes) p 0

@@ -6,6 +6,7 @@ pub mod Form
 pub mod Reading
 pub mod Writing
 pub mod Special
+pub mod Lent
 pub mod Answers
 pub mod Contracts
 pub mod Numbers

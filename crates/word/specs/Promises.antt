@@ -1,6 +1,6 @@
 -- The promises about words, each a statement that is proved under its own name in proofs/. They speak of the public
 -- functions through their contracts (Contracts.antt): of every answer and every output that a contract allows.
-use Prim.Native.Nat.{ℕ, _+_, _%_, _≤_, _<_}
+use Prim.Native.Nat.{ℕ, _+_, _*_, _%_, _≤_, _<_}
 use mathlib.Core.Path.{_≡_}
 use mathlib.Core.Bool.{Bool, true}
 use mathlib.Core.List.{List, [], _∷_, _++_}
@@ -14,7 +14,7 @@ use Rattle.word.specs.Parts.{fits}
 use Rattle.word.specs.Form.{forms, everythingElse}
 use Rattle.word.specs.Reading.{number, values}
 use Rattle.word.specs.Answers.{checkRefusal, readingRefusal, placeRefusal, writtenRefusal, placeValues, writtenValues}
-use Rattle.word.specs.Contracts.{Checks, Reads, ReadsAt, Writes, Presents}
+use Rattle.word.specs.Contracts.{Checks, Reads, ReadsAt, Writes, Presents, LentAt}
 use Rattle.word.specs.declared.setting.Level.{Level}
 use Rattle.word.specs.declared.setting.Setting.{Setting}
 use Rattle.word.specs.declared.setting.Check.{Check}
@@ -105,6 +105,7 @@ pub record One : Type 0 where
       → Writes s r out b y
       → (a ≡ b) × (x ≡ y)
   pub present : (level : Level) (m : ℕ) (a b : Bool) → Presents level m a → Presents level m b → a ≡ b
+  pub word-at : (bytes : List ℕ) (p a b : ℕ) → LentAt bytes p a → LentAt bytes p b → a ≡ b
 
 -- Promise 2, first half: what the writer writes reads back as the same command, and it writes nothing else.
 pub record Echo (s : Setting) (r : Reading) (out : List ℕ) (a : Written) (exit : List ℕ) : Type 0 where
@@ -177,3 +178,12 @@ OneForm =
     → fits (getD forms i everythingElse .word) w ≡ true
     → fits (getD forms j everythingElse .word) w ≡ true
     → getD forms i everythingElse ≡ getD forms j everythingElse
+
+-- "words little-endian": the word at a place of lent bytes has the lowest byte first, and past the last whole word stands 0.
+pub record LittleEndian : Type 0 where
+  pub inside :
+      (bytes : List ℕ) (p a : ℕ)
+      → LentAt bytes p a
+      → 4 * p + 3 < length bytes
+      → a ≡ getD bytes (4 * p) 0 + getD bytes (4 * p + 1) 0 * 0x100 + getD bytes (4 * p + 2) 0 * 0x10000 + getD bytes (4 * p + 3) 0 * 0x1000000
+  pub past : (bytes : List ℕ) (p a : ℕ) → LentAt bytes p a → length bytes < 4 * p + 4 → a ≡ 0

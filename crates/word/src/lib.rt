@@ -1,10 +1,12 @@
 // What one command word means: the setting it is read at, its reading, its writing, and which
 // special methods a level has.
+mod lent;
 mod reading;
 mod setting;
 mod special;
 mod writing;
 
+pub use lent::word_at;
 pub use reading::Place;
 pub use reading::Reading;
 pub use reading::read;

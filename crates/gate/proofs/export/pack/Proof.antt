@@ -1,8 +1,8 @@
 use native.Mathlib.Omega.{arith}
 use borrow.Author.Needs.{needs}
 use lib.Bits.{and-le-r}
-use Rattle.gate.specs.Packed.{packed}
-use Rattle.gate.proofs.Bits.{four-parts}
+use Rattle.rules.specs.Packed.{packed}
+use Rattle.rules.proofs.Bits.{four-parts}
 use Rattle.gate.proofs.export.pack.Statement.{statement}
 use Rattle.gate.proofs.export.pack.Tie as tie
 

@@ -1,5 +1,5 @@
 use borrow.Author.Needs.{needs}
-use Rattle.gate.specs.Packed.{placeIn}
+use Rattle.rules.specs.Packed.{placeIn}
 use Rattle.gate.proofs.export.place_in.Statement.{statement}
 use Rattle.gate.proofs.export.place_in.Tie as tie
 

@@ -1,5 +1,5 @@
 use borrow.Author.Needs.{needs}
-use Rattle.gate.specs.Packed.{reasonIn}
+use Rattle.rules.specs.Packed.{reasonIn}
 use Rattle.gate.proofs.export.reason_in.Statement.{statement}
 use Rattle.gate.proofs.export.reason_in.Tie as tie
 

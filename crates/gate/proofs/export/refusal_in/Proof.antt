@@ -1,5 +1,5 @@
 use borrow.Author.Needs.{needs}
-use Rattle.gate.specs.Packed.{refusalIn}
+use Rattle.rules.specs.Packed.{refusalIn}
 use Rattle.gate.proofs.export.refusal_in.Statement.{statement}
 use Rattle.gate.proofs.export.refusal_in.Tie as tie
 

@@ -1,6 +1,6 @@
 use mathlib.Core.Path.{ap, _∙_}
 use borrow.Author.Needs.{needs}
-use Rattle.gate.specs.Packed.{packed}
+use Rattle.rules.specs.Packed.{packed}
 use Rattle.gate.proofs.export.upborliya_judge.Statement.{statement}
 use Rattle.gate.proofs.export.upborliya_judge.Tie as tie
 

@@ -1,8 +1,8 @@
 use mathlib.Core.Path.{sym, _∙_}
 use borrow.Author.Needs.{needs}
 use Rattle.word.proofs.First.{choose-true, choose-false}
-use Rattle.gate.specs.Reason.{findingOf}
-use Rattle.gate.specs.Judging.{atMark}
+use Rattle.rules.specs.Reason.{findingOf}
+use Rattle.rules.specs.Judging.{atMark}
 use Rattle.gate.proofs.judging.at_mark.Statement.{statement}
 use Rattle.gate.proofs.judging.at_mark.Tie as tie
 

@@ -1,8 +1,8 @@
 use Prim.Native.Nat.{_-_}
 use native.Mathlib.Omega.{arith}
-use Rattle.gate.specs.Map.{tooWide}
-use Rattle.gate.proofs.Scans.{Passed, outset}
-use Rattle.gate.proofs.Verdicts.{byte-onward, byte-met, bytes-fine}
+use Rattle.rules.specs.Map.{tooWide}
+use Rattle.rules.proofs.Scans.{Passed, outset}
+use Rattle.rules.proofs.Verdicts.{byte-onward, byte-met, bytes-fine}
 use Rattle.gate.proofs.judging.first_wide.Statement.{statement}
 use Rattle.gate.proofs.judging.first_wide.Tie as tie
 

@@ -6,8 +6,8 @@ use borrow.Author.Needs.{needs}
 use lib.ListN.{length}
 use Rattle.word.specs.Setting.{checkOf}
 use Rattle.word.specs.declared.setting.Check.the-variants.{Fine}
-use Rattle.gate.specs.Judging.{lengthRefused, settingOf}
-use Rattle.gate.proofs.Refusals.{lengths, by-setting, by-size, by-length, not-refused}
+use Rattle.rules.specs.Judging.{lengthRefused, settingOf}
+use Rattle.rules.proofs.Refusals.{lengths, by-setting, by-size, by-length, not-refused}
 use Rattle.gate.proofs.judging.judge.Statement.{statement}
 use Rattle.gate.proofs.judging.judge.Tie as tie
 

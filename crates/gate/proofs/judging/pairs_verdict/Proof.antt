@@ -2,10 +2,10 @@ use Prim.Native.Nat.{_*_, _-_}
 use native.Mathlib.Omega.{arith}
 use borrow.Author.Needs.{needs}
 use lib.ListN.{length}
-use Rattle.gate.specs.Reason.{submission}
-use Rattle.gate.specs.Judging.{refusedPair}
-use Rattle.gate.proofs.Scans.{Passed, outset}
-use Rattle.gate.proofs.Verdicts.{pair-onward, pair-met, pairs-over, pairs-fine}
+use Rattle.rules.specs.Reason.{submission}
+use Rattle.rules.specs.Judging.{refusedPair}
+use Rattle.rules.proofs.Scans.{Passed, outset}
+use Rattle.rules.proofs.Verdicts.{pair-onward, pair-met, pairs-over, pairs-fine}
 use Rattle.gate.proofs.judging.pairs_verdict.Statement.{statement}
 use Rattle.gate.proofs.judging.pairs_verdict.Tie as tie
 

@@ -2,7 +2,7 @@ use mathlib.Core.Path.{sym, _∙_}
 use borrow.Author.Needs.{needs}
 use borrow.Author.Tests.{eq-eqb, ne-eqb}
 use Rattle.word.specs.First.{choose}
-use Rattle.gate.specs.Judging.{startVerdict}
+use Rattle.rules.specs.Judging.{startVerdict}
 use Rattle.gate.proofs.judging.start_verdict.Statement.{statement}
 use Rattle.gate.proofs.judging.start_verdict.Tie as tie
 

@@ -1,9 +1,9 @@
 use mathlib.Core.Path.{_≡_}
 use borrow.Author.Needs.{needs}
 use lib.ListN.{length}
-use Rattle.gate.specs.Lent.{wordsOf}
-use Rattle.gate.proofs.Words.{words-many}
-use Rattle.gate.proofs.Verdicts.{bytes-stand, start-stands, pairs-stand}
+use Rattle.word.specs.Lent.{wordsOf}
+use Rattle.word.proofs.Bytes.{words-many}
+use Rattle.rules.proofs.Verdicts.{bytes-stand, start-stands, pairs-stand}
 use Rattle.gate.proofs.judging.whole_verdict.Statement.{statement}
 use Rattle.gate.proofs.judging.whole_verdict.Tie as tie
 

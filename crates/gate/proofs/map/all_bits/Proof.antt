@@ -2,8 +2,8 @@ use Prim.Native.Nat.{_-_, _≤_}
 use mathlib.Core.Path.{_≡_, refl}
 use native.Mathlib.Omega.{arith}
 use lib.ListN.{length}
-use Rattle.gate.specs.Map.{allBits}
-use Rattle.gate.proofs.Together.{bits-more}
+use Rattle.rules.specs.Map.{allBits}
+use Rattle.rules.proofs.Together.{bits-more}
 use Rattle.gate.proofs.map.all_bits.Statement.{statement}
 use Rattle.gate.proofs.map.all_bits.Tie as tie
 

@@ -1,5 +1,5 @@
 use borrow.Author.Needs.{needs}
-use Rattle.gate.specs.Map.{marked}
+use Rattle.rules.specs.Map.{marked}
 use Rattle.gate.proofs.map.is_marked.Statement.{statement}
 use Rattle.gate.proofs.map.is_marked.Tie as tie
 

@@ -1,9 +1,9 @@
 use Prim.Native.Nat.{_-_}
 use native.Mathlib.Omega.{arith}
-use Rattle.gate.specs.Permit.{permits}
-use Rattle.gate.specs.Parameters.{denied}
-use Rattle.gate.proofs.Scans.{Passed, outset, none-passes}
-use Rattle.gate.proofs.Methods.{method-below, fails, method-onward, method-met}
+use Rattle.rules.specs.Permit.{permits}
+use Rattle.rules.specs.Parameters.{denied}
+use Rattle.rules.proofs.Scans.{Passed, outset, none-passes}
+use Rattle.rules.proofs.Methods.{method-below, fails, method-onward, method-met}
 use Rattle.gate.proofs.parameters.any_denied.Statement.{statement}
 use Rattle.gate.proofs.parameters.any_denied.Tie as tie
 

@@ -5,9 +5,9 @@ use native.Mathlib.Omega.{arith}
 use borrow.Author.Needs.{needs}
 use Rattle.word.specs.Special.{presentOf}
 use Rattle.word.specs.declared.setting.Level.{Level}
-use Rattle.gate.specs.Parameters.{lacking}
-use Rattle.gate.proofs.Scans.{Passed, outset, none-passes}
-use Rattle.gate.proofs.Methods.{method-below, fails, method-onward, method-met}
+use Rattle.rules.specs.Parameters.{lacking}
+use Rattle.rules.proofs.Scans.{Passed, outset, none-passes}
+use Rattle.rules.proofs.Methods.{method-below, fails, method-onward, method-met}
 use Rattle.gate.proofs.parameters.any_lacking.Statement.{statement}
 use Rattle.gate.proofs.parameters.any_lacking.Tie as tie
 

@@ -1,7 +1,7 @@
 use mathlib.Core.Path.{sym}
 use borrow.Author.Needs.{needs}
 use Rattle.word.proofs.First.{choose-true, choose-false}
-use Rattle.gate.specs.Parameters.{methodFor}
+use Rattle.rules.specs.Parameters.{methodFor}
 use Rattle.gate.proofs.parameters.method_for.Statement.{statement}
 use Rattle.gate.proofs.parameters.method_for.Tie as tie
 

@@ -1,7 +1,7 @@
 use mathlib.Core.Bool.{false≢true}
 use native.Mathlib.Omega.{arith}
 use borrow.Author.Tests.{leb-true}
-use Rattle.gate.proofs.Methods.{above-special}
+use Rattle.rules.proofs.Methods.{above-special}
 use Rattle.gate.proofs.parameters.none_special.Statement.{statement}
 use Rattle.gate.proofs.parameters.none_special.Tie as tie
 

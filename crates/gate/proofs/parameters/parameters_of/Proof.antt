@@ -1,6 +1,6 @@
 use borrow.Author.Needs.{needs}
-use Rattle.gate.specs.Parameters.{parametersOf}
-use Rattle.gate.proofs.Readings.{no-parameters}
+use Rattle.rules.specs.Parameters.{parametersOf}
+use Rattle.rules.proofs.Readings.{no-parameters}
 use Rattle.gate.proofs.parameters.parameters_of.Statement.{statement}
 use Rattle.gate.proofs.parameters.parameters_of.Tie as tie
 

@@ -4,7 +4,7 @@ use borrow.Author.Needs.{needs}
 use lib.Bits.{and-mask}
 use lib.Dec.{eqb}
 use lib.ListN.{getD}
-use Rattle.gate.specs.Permit.{permits}
+use Rattle.rules.specs.Permit.{permits}
 use Rattle.gate.proofs.permit.permitted.Statement.{statement}
 use Rattle.gate.proofs.permit.permitted.Tie as tie
 

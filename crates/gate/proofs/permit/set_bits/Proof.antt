@@ -3,8 +3,8 @@ use mathlib.Core.Path.{_≡_, refl}
 use native.Mathlib.Omega.{arith}
 use lib.Count.{ones, ones-le}
 use lib.ListN.{getD}
-use Rattle.gate.specs.Permit.{setBits, countOf}
-use Rattle.gate.proofs.Scans.{set-bits-more}
+use Rattle.rules.specs.Permit.{setBits, countOf}
+use Rattle.rules.proofs.Scans.{set-bits-more}
 use Rattle.gate.proofs.permit.set_bits.Statement.{statement}
 use Rattle.gate.proofs.permit.set_bits.Tie as tie
 

@@ -2,8 +2,8 @@ use mathlib.Core.Path.{sym, _∙_}
 use borrow.Author.Needs.{needs}
 use borrow.Author.Tests.{lt-ltb, le-ltb, eq-eqb, ne-eqb}
 use Rattle.word.specs.First.{choose, first}
-use Rattle.gate.specs.Map.{unmarked}
-use Rattle.gate.specs.Reason.{findingOf}
+use Rattle.rules.specs.Map.{unmarked}
+use Rattle.rules.specs.Reason.{findingOf}
 use Rattle.gate.proofs.reason.arrival.Statement.{statement}
 use Rattle.gate.proofs.reason.arrival.Tie as tie
 

@@ -1,7 +1,7 @@
 use borrow.Author.Needs.{needs}
 use Rattle.word.specs.First.{choose, first}
-use Rattle.gate.specs.Reason.{findingOf}
-use Rattle.gate.proofs.Findings.{found-first, found-later, found-past}
+use Rattle.rules.specs.Reason.{findingOf}
+use Rattle.rules.proofs.Findings.{found-first, found-later, found-past}
 use Rattle.gate.proofs.reason.call_reason.Statement.{statement}
 use Rattle.gate.proofs.reason.call_reason.Tie as tie
 

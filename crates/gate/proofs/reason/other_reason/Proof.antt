@@ -5,13 +5,13 @@ use lib.ListN.{length}
 use borrow.Author.Needs.{needs}
 use Rattle.word.specs.First.{choose, first}
 use Rattle.word.specs.declared.reading.Reading.{Reading}
-use Rattle.gate.specs.Map.{among, unmarked}
-use Rattle.gate.specs.Parameters.{parametersOf}
-use Rattle.gate.specs.Reason.{reserved?, call?, return?, nexts, formCases, nextCases, commandCases, findingOf}
-use Rattle.gate.specs.declared.reason.Finding.{Finding}
-use Rattle.gate.proofs.Findings.{by-nexts}
-use Rattle.gate.proofs.Methods.{parameters-fit}
-use Rattle.gate.proofs.Readings.{run-first, no-command}
+use Rattle.rules.specs.Map.{among, unmarked}
+use Rattle.rules.specs.Parameters.{parametersOf}
+use Rattle.rules.specs.Reason.{reserved?, call?, return?, nexts, formCases, nextCases, commandCases, findingOf}
+use Rattle.rules.specs.declared.reason.Finding.{Finding}
+use Rattle.rules.proofs.Findings.{by-nexts}
+use Rattle.rules.proofs.Methods.{parameters-fit}
+use Rattle.rules.proofs.Readings.{run-first, no-command}
 use Rattle.gate.proofs.reason.other_reason.Statement.{statement}
 use Rattle.gate.proofs.reason.other_reason.Tie as tie
 

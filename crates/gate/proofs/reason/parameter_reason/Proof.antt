@@ -6,10 +6,10 @@ use borrow.Author.Needs.{needs}
 use borrow.Author.Tests.{lt-ltb, le-ltb}
 use lib.ListN.{length}
 use Rattle.word.specs.First.{choose, first}
-use Rattle.gate.specs.Map.{among}
-use Rattle.gate.specs.Parameters.{lacking, denied}
-use Rattle.gate.specs.Reason.{findingOf}
-use Rattle.gate.proofs.Parts.{part-starts}
+use Rattle.rules.specs.Map.{among}
+use Rattle.rules.specs.Parameters.{lacking, denied}
+use Rattle.rules.specs.Reason.{findingOf}
+use Rattle.rules.proofs.Parts.{part-starts}
 use Rattle.gate.proofs.reason.parameter_reason.Statement.{statement}
 use Rattle.gate.proofs.reason.parameter_reason.Tie as tie
 

@@ -4,12 +4,12 @@ use borrow.Author.Needs.{needs}
 use lib.ListN.{length, getD}
 use Rattle.word.specs.Reading.{readOf}
 use Rattle.word.proofs.Promises.{widths}
-use Rattle.gate.specs.Lent.{wordsOf}
-use Rattle.gate.specs.Parameters.{parametersOf}
-use Rattle.gate.specs.Reason.{findingOf}
-use Rattle.gate.proofs.Findings.{by-nexts, call-first, at-command}
-use Rattle.gate.proofs.Readings.{no-call}
-use Rattle.gate.proofs.Words.{words-many}
+use Rattle.word.specs.Lent.{wordsOf}
+use Rattle.rules.specs.Parameters.{parametersOf}
+use Rattle.rules.specs.Reason.{findingOf}
+use Rattle.rules.proofs.Findings.{by-nexts, call-first, at-command}
+use Rattle.rules.proofs.Readings.{no-call}
+use Rattle.word.proofs.Bytes.{words-many}
 use Rattle.gate.proofs.reason.reason_at.Statement.{statement}
 use Rattle.gate.proofs.reason.reason_at.Tie as tie
 

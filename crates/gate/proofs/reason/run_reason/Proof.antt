@@ -2,7 +2,7 @@ use Prim.Native.Nat.{_+_}
 use mathlib.Core.Path.{_≡_}
 use native.Mathlib.Omega.{arith}
 use borrow.Author.Needs.{needs}
-use Rattle.gate.proofs.Findings.{found-first, found-later, none-follow}
+use Rattle.rules.proofs.Findings.{found-first, found-later, none-follow}
 use Rattle.gate.proofs.reason.run_reason.Statement.{statement}
 use Rattle.gate.proofs.reason.run_reason.Tie as tie
 

@@ -1,0 +1,105 @@
+-- `SoundMoves`: an accepted map keeps the pusher safe. Assumes nothing.
+use Prim.Native.Nat.{ℕ, _+_, _*_, _/_, _≤_, _<_}
+use mathlib.Core.Path.{_≡_, refl, sym, _∙_}
+use mathlib.Core.Bool.{Bool, false≢true}
+use mathlib.Core.List.{List}
+use mathlib.Core.Logic.{_⊎_, inl, inr, ⊎-elim}
+use native.Mathlib.Nat.{eq-or-lt-of-le}
+use native.Mathlib.Omega.{arith}
+use lib.ListN.{length}
+use borrow.Author.Tests.{eqb-true, not-false}
+use Rattle.pusher.specs.Record.{number, halts}
+use Rattle.pusher.specs.Moving.{Role, commands, submits, role}
+use Rattle.pusher.specs.Promises.{ReadsCommand, ReadsParameter}
+use Rattle.pusher.specs.declared.record.Setup.{Setup}
+use Rattle.pusher.specs.declared.record.Pusher.{Pusher}
+use Rattle.pusher.proofs.Roles.{Facts, facts}
+use Rattle.pusher.proofs.Sentences.{runs}
+use Rattle.word.specs.Lent.{wordsOf}
+use Rattle.rules.specs.Reason.{Submission, submission, size}
+use Rattle.rules.specs.Judging.{settingOf}
+use Rattle.rules.specs.Promises.{SafePusher, FreshPusher, Moved, unmoved, move, SoundMoves}
+use Rattle.rules.proofs.Table.{passed}
+use Rattle.rules.proofs.Clean.{Clean, clean, unstarted}
+use Rattle.rules.proofs.Moving.{Inv, run-permitted, after, starts-at}
+
+module _ (x : Submission) (map : List ℕ) (ok : Clean x map) (small : size x ≤ 1048576) where
+  module _ (s : Setup) (setting : s .setting ≡ x .setting) (style : x .setting .mode .number ≡ 0) (limit : (k : ℕ) → k < size x → 4 * k ≤ s .limit) where
+    -- any number of moves keeps the invariant
+    always : (p q : Pusher) → Inv x map p → Moved s (x .words) p q → Inv x map q
+    always p q i unmoved = i
+    always p q i (move {q = o} es r l m e) =
+        rw (e, m) (after x map ok small s setting style limit o (always p o i l) es .pusher)
+
+    -- the facts at a role that the pusher is at
+    at-role : (p : Pusher) (es : List ℕ) (r : Role) → role s p (x .words) es ≡ r → Facts s p (x .words) es r
+    at-role p es r e = rw e at (facts s p (x .words) es)
+
+    safe : (p : Pusher) → Inv x map p → SafePusher s (x .words) (x .permit) p
+    unfolding halts
+    safe p i =
+        record {
+          no-error = eqb-true _ _ (not-false _ (i .running));
+          permitted = λ es r m h v. after x map ok small s setting style limit p i es .permitted m (rw h at v);
+          parameter = λ es h. run-permitted x map p i (at-role p es submits h .3);
+          closed = λ e.
+              let a = i .address in
+              let b = i .end in
+              let g = i .next in
+              record {
+                count = ⊎-elim (λ g. omega arith) (λ g. absurd (omega arith)) g;
+                awaited = i .unawaited;
+                subroutine = ⊎-elim (λ g. g .1) (λ g. absurd (omega arith)) g;
+              };
+        }
+
+    apart :
+        (p q : Pusher) (es fs : List ℕ)
+        → Inv x map p
+        → Inv x map q
+        → ReadsCommand s p (x .words) es
+        → ReadsParameter s q (x .words) fs
+        → p .get / 4 ≡ q .get / 4
+        → ⊥
+    apart p q es fs i j c h e =
+        let start = starts-at x map ok small s setting style limit p i es (at-role p es commands c) in
+        let f = at-role q fs submits h in
+        let n = f .3 in
+        let a = i .address in
+        let b = j .address in
+        let same : j .place + 0 ≡ i .place = omega arith in
+        unstarted x map (i .place) (p .subroutine .active) (rw same at (j .bare 0 (omega arith))) (start .1)
+
+-- a pusher before its first move
+begins :
+    (level : ℕ) (sli : Bool) (bytes map list : List ℕ) (s : Setup) (p : Pusher)
+    → Clean (submission (settingOf level sli) bytes list) map
+    → FreshPusher level sli (wordsOf bytes) s p
+    → Inv (submission (settingOf level sli) bytes list) map p
+begins level sli bytes map list s p ok f =
+    let none = f .closed .count in
+    let out = f .closed .subroutine in
+    record {
+      place = 0;
+      address = f .get;
+      end = f .put;
+      running = runs (p .error) (f .no-error);
+      unawaited = f .closed .awaited;
+      next = rw (none, out) (⊎-elim (λ e. inl (e, refl)) (λ l. inr (l, ok .origin l)) (eq-or-lt-of-le {n = 0} {m = length (wordsOf bytes)} (omega arith)));
+      home = λ e. absurd (false≢true (sym out ∙ e));
+      narrow = λ n. absurd (n none);
+      present = λ k l. absurd (omega arith);
+      allowed = λ k l. absurd (omega arith);
+      bare = λ k l. absurd (omega arith);
+    }
+
+pub sound-moves : SoundMoves
+sound-moves level sli bytes map list r j a s p f =
+    let x = submission (settingOf level sli) bytes list in
+    let h = passed level sli bytes map list r j a in
+    let ok = clean x map (h .0 .bytes-map) (h .1) in
+    let i = begins level sli bytes map list s p ok f in
+    let kept = always x map ok (h .0 .words) s (f .setting) refl (f .limit) p in (
+      λ q m. safe x map ok (h .0 .words) s (f .setting) refl (f .limit) q (kept q i m),
+      λ q t es fs m n. apart x map ok (h .0 .words) s (f .setting) refl (f .limit) q t es fs (kept q i m) (kept t i n),
+    )

@@ -1,0 +1,51 @@
+-- The path rule: which pairs are reached, which places are bad, and the map that marks exactly what is reached.
+use Prim.Native.Nat.{ℕ, _+_, _/_, _%_, _≤_, _<_}
+use mathlib.Core.Path.{_≡_}
+use mathlib.Core.Bool.{Bool}
+use mathlib.Core.List.{List, [], _∷_}
+use mathlib.Core.Logic.{_⊎_, _↔_}
+use mathlib.Core.Option.{none}
+use lib.ListN.{length, getD}
+use Rattle.word.specs.declared.reading.Reading.{Reading}
+use Rattle.rules.specs.Map.{main, inside}
+use Rattle.rules.specs.Parameters.{parametersOf}
+use Rattle.rules.specs.Reason.{Pair, nexts, Submission, size, commandAt, flawAt}
+
+-- a place in a state is one of these pairs
+abbrev pub OneOf : List Pair → ℕ → Bool → Type 0
+OneOf [] q t = ⊥
+OneOf (x ∷ xs) q t = ((q ≡ x .place) × (t ≡ x .state)) ⊎ OneOf xs q t
+
+-- (q, t) is a next pair of the command d at (p, s)
+abbrev pub Next : Reading → ℕ → Bool → ℕ → Bool → Type 0
+Next d p s q t = OneOf (nexts d p s) q t
+
+-- "(place 0, main) is reached if there is a word; from a reached pair without reasons 3 to 8, 10 and 12, its next pairs are
+-- reached, unless that is the end."
+pub data Reached (x : Submission) : ℕ → Bool → Type 0 where
+  origin : 0 < size x → Reached x 0 main
+  onward :
+      {p : ℕ} {s : Bool} {q : ℕ} {t : Bool}
+      → Reached x p s
+      → flawAt x p s ≡ none
+      → Next (commandAt x p) p s q t
+      → (q ≡ size x → ⊥)
+      → Reached x q t
+
+-- "A place is bad if a reached pair has one of those reasons or a reached start lies among its parameters."
+pub data Bad (x : Submission) : ℕ → Type 0 where
+  flawed : {p : ℕ} {s : Bool} → Reached x p s → (flawAt x p s ≡ none → ⊥) → Bad x p
+  amid :
+      {p : ℕ} {s : Bool} {q : ℕ} {t : Bool}
+      → Reached x p s
+      → Reached x q t
+      → p < q
+      → q ≤ p + parametersOf (commandAt x p) .count
+      → Bad x p
+
+-- "the map that marks exactly the reached places": a byte a word, 1 if reached in main, plus 2 if reached inside a subroutine
+pub record Exact (x : Submission) (map : List ℕ) : Type 0 where
+  pub bytes : length map ≡ size x
+  pub narrow : (p : ℕ) → p < size x → getD map p 0 ≤ 3
+  pub in-main : (p : ℕ) → p < size x → getD map p 0 % 2 ≡ 1 ↔ Reached x p main
+  pub in-subroutine : (p : ℕ) → p < size x → getD map p 0 / 2 ≡ 1 ↔ Reached x p inside

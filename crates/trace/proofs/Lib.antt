@@ -1,0 +1,10 @@
+pub mod Adding
+pub mod Digits
+pub mod Names
+pub mod Loading
+pub mod Telling
+pub mod Room
+pub mod Idling
+pub mod Turns
+pub mod Examples
+pub mod Promises

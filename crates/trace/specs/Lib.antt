@@ -1,0 +1,10 @@
+pub mod Text
+pub mod Line
+pub mod Names
+pub mod End
+pub mod Lines
+pub mod Run
+pub mod Printed
+pub mod Answers
+pub mod Contracts
+pub mod Promises

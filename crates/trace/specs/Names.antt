@@ -1,0 +1,83 @@
+-- The names that the paper gives.
+use Prim.Native.Nat.{ℕ}
+use Prim.Native.String.{String}
+use mathlib.Core.List.{List, [], _∷_}
+use lib.ListN.{getD}
+use Rattle.event.specs.declared.Kind.{Kind}
+use Rattle.event.specs.Event.{number}
+use Rattle.pusher.specs.Record as pusher
+use Rattle.pusher.specs.declared.record.PusherError.{PusherError}
+use Rattle.puller.specs.Record as puller
+use Rattle.puller.specs.declared.record.PullerError.{PullerError}
+use Rattle.trace.specs.declared.end.Cause.{Cause}
+use Rattle.trace.specs.declared.end.Cause.the-variants.{Pusher, Puller}
+
+-- the name at a number's place in a list that counts from 0; a number that the list doesn't have has none
+abbrev name : List String → ℕ → String
+name names n = getD names n ""
+
+-- "`kind` is command, count, bind, ref, event, dma, offset, acquire, release, wait, forward or error, in the library also entry,
+-- discard, idle and stopped": the kinds' numbers count that list from 1
+abbrev kinds : List String
+kinds =
+    ""
+    ∷ "command"
+    ∷ "count"
+    ∷ "bind"
+    ∷ "ref"
+    ∷ "event"
+    ∷ "dma"
+    ∷ "offset"
+    ∷ "acquire"
+    ∷ "release"
+    ∷ "wait"
+    ∷ "forward"
+    ∷ "error"
+    ∷ "entry"
+    ∷ "discard"
+    ∷ "idle"
+    ∷ "stopped"
+    ∷ []
+
+unfoldable pub kindName : Kind → String
+kindName k = name kinds (number k)
+
+-- "Pusher errors: 1 CALL, 2 NON_CACHE, 3 RETURN, 4 RESERVED_CMD, 5 IB, 6 PROTECTION"
+abbrev pusherErrors : List String
+pusherErrors = "" ∷ "CALL" ∷ "NON_CACHE" ∷ "RETURN" ∷ "RESERVED_CMD" ∷ "IB" ∷ "PROTECTION" ∷ []
+
+-- the puller's: "CACHE_ERROR NO_HASH", "EMPTY_SUBCHANNEL", "SEMAPHORE 1" to 4, "as NON_CACHE or SEMAPHORE_2"
+abbrev pullerErrors : List String
+pullerErrors = "" ∷ "NO_HASH" ∷ "EMPTY_SUBCHANNEL" ∷ "SEMAPHORE_1" ∷ "SEMAPHORE_2" ∷ "SEMAPHORE_3" ∷ "SEMAPHORE_4" ∷ []
+
+unfoldable pub pusherName : PusherError → String
+pusherName e = name pusherErrors (pusher.number e)
+
+unfoldable pub pullerName : PullerError → String
+pullerName e = name pullerErrors (puller.number e)
+
+unfoldable pub causeName : Cause → String
+causeName (Pusher e) = pusherName e
+causeName (Puller e) = pullerName e
+
+-- the table of refusal numbers
+abbrev refusals : List String
+refusals =
+    ""
+    ∷ "LEVEL"
+    ∷ "MODE"
+    ∷ "ORDER"
+    ∷ "SLI"
+    ∷ "TABLE"
+    ∷ "DUPLICATE"
+    ∷ "PUT"
+    ∷ "SIZE"
+    ∷ "LENGTH"
+    ∷ "FIELD"
+    ∷ "ROOM"
+    ∷ "FORM"
+    ∷ "STATE"
+    ∷ []
+
+unfoldable pub refusalName : ℕ → String
+refusalName n = name refusals n

@@ -1,0 +1,75 @@
+// How a run ends.
+ghost use mathlib.Core.Path.{_≡_};
+ghost use Rattle.trace.specs.End.{idles};
+ghost use Rattle.trace.specs.Contracts.{Ends};
+use channel::Channel;
+use puller::PullerError;
+use pusher::PusherError;
+use word::Mode;
+
+// The most steps of a run.
+pub const BUDGET: u32 = 65_536;
+
+// What stopped a channel: the error of either half.
+pub enum Cause {
+    Pusher { error: PusherError },
+    Puller { error: PullerError },
+}
+
+pub enum End {
+    Error { cause: Cause },
+    Idle,
+    Budget,
+}
+
+pub enum Ending {
+    GoesOn,
+    Over { end: End },
+}
+
+// Whether a run has ended after so many steps, and how.
+pub fn ended(channel: Channel, steps: u32) -> Ending
+    ensures { λ r. ⌜ Ends channel steps r ⌝ }
+{
+    let pusher = channel.pusher;
+    if pusher.stopped() {
+        let error = pusher.error;
+        return Ending::Over {
+            end: End::Error {
+                cause: Cause::Pusher { error },
+            },
+        };
+    }
+    let puller = channel.puller;
+    if puller.stopped() {
+        let error = puller.error;
+        return Ending::Over {
+            end: End::Error {
+                cause: Cause::Puller { error },
+            },
+        };
+    }
+    if idle(channel) {
+        return Ending::Over { end: End::Idle };
+    }
+    if BUDGET <= steps {
+        return Ending::Over { end: End::Budget };
+    }
+    Ending::GoesOn
+}
+
+// Whether a step of a channel that is not stopped would find nothing to do.
+fn idle(channel: Channel) -> bool
+    ensures { λ r. ⌜ r ≡ idles channel ⌝ }
+{
+    if channel.puller.acquire.active {
+        return false;
+    }
+    if channel.pusher.get != channel.pusher.put {
+        return false;
+    }
+    if channel.setup.setting.mode.number == Mode::IB.number {
+        return channel.pusher.ib.get == channel.pusher.ib.put;
+    }
+    true
+}

@@ -1,0 +1,45 @@
+#include "listing.h"
+
+/* The words of a command: the first, a long form's count word, and the parameters, which are as many as its
+ * count. Jumps are commands like others, they are not followed. */
+static uint64_t words_of(struct reading command)
+{
+    switch (command.number) {
+    case READING_INCREASING:
+    case READING_NON_INCREASING:
+        return 1 + (uint64_t)command.value[0];
+    case READING_LONG:
+        return 2 + (uint64_t)command.value[2];
+    default:
+        return 1;
+    }
+}
+
+static struct listed without_command(uint32_t answer, uint32_t refusal)
+{
+    return (struct listed){answer, {0, {refusal, 0, 0}}};
+}
+
+/* "Reading a word, listing: 1, 2, 4, 8." The two have the same refusals, and past the last word the same
+ * answer. */
+struct listed model_listing_next(struct setting setting, const uint32_t *words, size_t count, uint64_t *place)
+{
+    struct reading reading = model_read_at(setting, words, count, *place);
+
+    switch (reading.number) {
+    case READING_REFUSED:
+        return without_command(LISTED_REFUSED, reading.value[0]);
+    case READING_PAST:
+        return without_command(LISTED_PAST, REFUSAL_NONE);
+    case READING_RESERVED:
+        return without_command(LISTED_RESERVED, REFUSAL_NONE);
+    default:
+        break;
+    }
+    /* A long form that lacks its count word reads as one of count 0, which has two words, one more than there
+     * is. */
+    if (words_of(reading) > count - *place)
+        return without_command(LISTED_SHORT, REFUSAL_NONE);
+    *place += words_of(reading);
+    return (struct listed){LISTED_COMMAND, reading};
+}

@@ -1,0 +1,145 @@
+#include "trace.h"
+
+#include <inttypes.h>
+#include <string.h>
+
+/* ---- Names ---- */
+
+/* "`kind` is command, count, bind, ref, event, dma, offset, acquire, release, wait, forward or error, in the
+ * library also entry, discard, idle and stopped" */
+const char *model_kind_name(uint32_t kind)
+{
+    static const char *const names[] = {
+        [KIND_COMMAND] = "command", [KIND_COUNT] = "count",     [KIND_BIND] = "bind",
+        [KIND_REF] = "ref",         [KIND_EVENT] = "event",     [KIND_DMA] = "dma",
+        [KIND_OFFSET] = "offset",   [KIND_ACQUIRE] = "acquire", [KIND_RELEASE] = "release",
+        [KIND_WAIT] = "wait",       [KIND_FORWARD] = "forward", [KIND_ERROR] = "error",
+        [KIND_ENTRY] = "entry",     [KIND_DISCARD] = "discard", [KIND_IDLE] = "idle",
+        [KIND_STOPPED] = "stopped",
+    };
+
+    return names[kind];
+}
+
+/* "the name, as NON_CACHE or SEMAPHORE_2" */
+const char *model_cause_name(uint32_t pusher_error, uint32_t puller_error)
+{
+    static const char *const pusher_names[] = {
+        [PUSHER_CALL] = "CALL",     [PUSHER_NON_CACHE] = "NON_CACHE",
+        [PUSHER_RETURN] = "RETURN", [PUSHER_RESERVED_CMD] = "RESERVED_CMD",
+        [PUSHER_IB] = "IB",         [PUSHER_PROTECTION] = "PROTECTION",
+    };
+    static const char *const puller_names[] = {
+        [PULLER_NO_HASH] = "NO_HASH",         [PULLER_EMPTY_SUBCHANNEL] = "EMPTY_SUBCHANNEL",
+        [PULLER_SEMAPHORE_1] = "SEMAPHORE_1", [PULLER_SEMAPHORE_2] = "SEMAPHORE_2",
+        [PULLER_SEMAPHORE_3] = "SEMAPHORE_3", [PULLER_SEMAPHORE_4] = "SEMAPHORE_4",
+    };
+
+    return pusher_error != 0 ? pusher_names[pusher_error] : puller_names[puller_error];
+}
+
+/* ---- Lines ---- */
+
+/* "numbers are decimal" */
+void model_trace_step(FILE *out, uint32_t step, uint64_t get, struct answer answer)
+{
+    fprintf(out, "step=%" PRIu32 " get=%" PRIu64 " kind=%s", step, get, model_kind_name(answer.kind));
+    /* "only methods taken or discarded have further fields, error and a retry (acquire or wait) none" */
+    if (answer.fields)
+        fprintf(out, " subc=%" PRIu32 " mthd=%" PRIu32 " param=%" PRIu32, answer.subchannel, answer.method,
+                answer.parameter);
+    fputc('\n', out);
+}
+
+void model_trace_end(FILE *out, uint32_t end, uint32_t steps, const struct channel *channel)
+{
+    /* "after error stands cause= with the name" */
+    if (end == ENDED_ERROR)
+        fprintf(out, "end=error cause=%s", model_cause_name(channel->pusher_error, channel->puller_error));
+    else
+        fprintf(out, "end=%s", end == ENDED_IDLE ? "idle" : "budget");
+    fprintf(out, " steps=%" PRIu32 " get=%" PRIu64 " ref=%" PRIu32 "\n", steps, channel->get, channel->ref);
+}
+
+/* ---- The run ---- */
+
+/* "level 3, SLI off, empty table, [...] limit 0xffffffff, put at the end": at level 3 there is no IB mode.
+ * Nothing of that is refused. */
+static struct channel open_channel(size_t word_count)
+{
+    struct setup setup = {{3, MODE_NV04, false}, 0, UINT32_MAX, 0};
+    struct channel channel;
+
+    model_open(&channel, setup, NULL, 0);
+    model_set_put(&channel, (uint32_t)(4 * word_count));
+    return channel;
+}
+
+/* Whether a further step would be idle: one of a copy, with semaphore words of its own to write. */
+static bool would_idle(const struct channel *channel, const struct lent *lent)
+{
+    uint32_t semaphores[TRACE_SEMAPHORES];
+    struct channel further = *channel;
+    struct lent further_lent = *lent;
+
+    memcpy(semaphores, lent->semaphores, sizeof semaphores);
+    further_lent.semaphores = semaphores;
+    return model_step(&further, &further_lent).kind == KIND_IDLE;
+}
+
+/* "`end` is error if the channel is stopped, else idle if a further step would be, else budget" */
+static uint32_t end_of(const struct channel *channel, const struct lent *lent)
+{
+    if (channel->pusher_error != 0 || channel->puller_error != 0)
+        return ENDED_ERROR;
+    return would_idle(channel, lent) ? ENDED_IDLE : ENDED_BUDGET;
+}
+
+/* A line a step, then the end line. */
+static struct traced trace_words(FILE *out, const uint32_t *words, size_t count)
+{
+    uint32_t semaphores[TRACE_SEMAPHORES] = {0};
+    struct lent lent = {
+        .words = words, .word_count = count, .semaphores = semaphores, .semaphore_count = TRACE_SEMAPHORES};
+    struct channel channel = open_channel(count);
+    struct traced traced = {0};
+    uint32_t steps = 0;
+
+    while (steps < TRACE_STEPS && end_of(&channel, &lent) == ENDED_BUDGET) {
+        uint64_t get = channel.get;
+        struct answer answer = model_step(&channel, &lent);
+
+        steps++;
+        traced.kinds[answer.kind]++;
+        model_trace_step(out, steps, get, answer);
+    }
+    traced.end = end_of(&channel, &lent);
+    traced.pusher_error = channel.pusher_error;
+    traced.puller_error = channel.puller_error;
+    model_trace_end(out, traced.end, steps, &channel);
+    return traced;
+}
+
+/* "little-endian words" */
+static uint32_t word_at(const uint8_t *bytes)
+{
+    return (uint32_t)bytes[0] | (uint32_t)bytes[1] << 8 | (uint32_t)bytes[2] << 16 | (uint32_t)bytes[3] << 24;
+}
+
+struct traced model_trace(FILE *out, const uint8_t *bytes, size_t length)
+{
+    uint32_t words[TRACE_WORDS];
+
+    /* "Over 32,768 bytes prints only refused=SIZE (tried first), a part word refused=LENGTH." */
+    if (length > 4 * TRACE_WORDS) {
+        fputs("refused=SIZE\n", out);
+        return (struct traced){.end = ENDED_SIZE};
+    }
+    if (length % 4 != 0) {
+        fputs("refused=LENGTH\n", out);
+        return (struct traced){.end = ENDED_LENGTH};
+    }
+    for (size_t i = 0; i < length / 4; i++)
+        words[i] = word_at(bytes + 4 * i);
+    return trace_words(out, words, length / 4);
+}
