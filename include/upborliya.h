@@ -1,6 +1,6 @@
 /* The gatekeeper for command words of NV04 to NV84 cards, for a host program in C.
  *
- * Link with the archive that `rt staticlib gate` writes, or where it is installed with what
+ * Link with the archive that `rt staticlib upborliya` writes, or where it is installed with what
  * `pkg-config --libs upborliya` says. */
 #ifndef UPBORLIYA_H
 #define UPBORLIYA_H

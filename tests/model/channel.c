@@ -381,7 +381,7 @@ static struct answer take_parameter(struct channel *channel, const struct lent *
 
     /* "A method below 0x100 that the level lacks is NON_CACHE, tested before SLI discard"; it leaves "all
      * else as before", count and method too. */
-    if (!model_present(setting->level, method.number))
+    if (!model_present(setting->level, channel->method))
         return stop_pusher(channel, PUSHER_NON_CACHE);
     channel->count--;
     if (channel->increasing)

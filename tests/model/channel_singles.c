@@ -224,12 +224,12 @@ static struct single draw_method(struct draw *draw, struct setting setting, uint
 static void put_methods(struct vectors *vectors)
 {
     for (uint32_t i = 0; i < STATES; i++)
-        for (uint32_t method = 0; method <= 0x100; method += 4) {
+        for (uint32_t number = 0; number <= 0x40; number++) {
             struct state state = state_at(i);
-            struct single single = draw_method(&vectors->draw, state.setting, method);
+            struct single single = draw_method(&vectors->draw, state.setting, 4 * number);
 
             single.channel.sli_active = state.is_active;
-            if (model_present(state.setting.level, method) || i < 3 || (i + method / 4) % 3 == 0)
+            if (model_present(state.setting.level, number) || i < 3 || (i + number) % 3 == 0)
                 put_single(vectors, &single);
         }
 }

@@ -1095,7 +1095,7 @@ static bool widths_hold(const struct record *record)
         if (record->word[widths[i].at] >> widths[i].width != 0)
             return false;
     for (unsigned i = 0; i < SUBCHANNELS; i++)
-        if (record->word[AT_ENGINES + i] >> 5 != 0)
+        if (record->word[AT_ENGINE_0 + i] >> 5 != 0)
             return false;
     return true;
 }
@@ -1116,7 +1116,7 @@ static bool addresses_hold(const struct record *record)
 {
     bool ib = record->word[AT_MODE] == MODE_IB;
     uint32_t places = UINT32_C(1) << record->word[AT_IB_ORDER];
-    uint32_t high = record->word[AT_GET + 1] | record->word[AT_PUT + 1] | record->word[AT_DMA_MGET + 1];
+    uint32_t high = record->word[AT_GET_HIGH] | record->word[AT_PUT_HIGH] | record->word[AT_DMA_MGET_HIGH];
     uint32_t low = record->word[AT_GET] | record->word[AT_PUT] | record->word[AT_RETURN_ADDRESS];
 
     return high >> (ib ? 8 : 0) == 0 && low % 4 == 0 && record->word[AT_IB_GET] < places &&

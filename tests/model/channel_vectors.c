@@ -135,6 +135,17 @@ uint32_t add_put(struct buffer *buffer, size_t header, struct channel *channel, 
     return refusal;
 }
 
+/* The places of a channel's words, by name, which tests/host compares with those of the program that reads
+ * the records. */
+static void print_layout(void)
+{
+#define PRINT_NUMBER(name, field) printf("%s %d\n", #name, AT_##name);
+#define PRINT_WIDE(name, field) printf("%s %d\n%s_HIGH %d\n", #name, AT_##name, #name, AT_##name##_HIGH);
+    CHANNEL_NUMBERS(PRINT_NUMBER, PRINT_WIDE)
+    printf("CHANNEL_WORDS %d\n", CHANNEL_WORDS);
+}
+
+/* The one argument, if any, is --counts, or --layout. */
 int main(int count, char **arguments)
 {
     /* OPEN, RUN, PUT and RUN_PUT are counted by the refusal, STEP and SINGLE by the event's kind (0 where
@@ -145,6 +156,10 @@ int main(int count, char **arguments)
                                         "CAUSE", "RETRY_FAULT", "STATE",          "RUN_PUT"};
     static struct vectors vectors = {.draw = {0x5eed}};
 
+    if (count == 2 && strcmp(arguments[1], "--layout") == 0) {
+        print_layout();
+        return end_of_output();
+    }
     if (!read_arguments(&vectors, count, arguments))
         return 2;
     put_opens(&vectors);

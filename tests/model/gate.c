@@ -62,7 +62,7 @@ static uint32_t run_reason(const struct code *code, uint32_t place, struct readi
     if (count > code->count - (place + 1))
         return REASON_PARAMETERS;
     for (uint32_t k = 0; k < count; k++)
-        if (!model_present(code->setting.level, 4 * method_of(command, k)))
+        if (!model_present(code->setting.level, method_of(command, k)))
             return REASON_NON_CACHE;
     for (uint32_t k = 0; k < count; k++)
         if (!is_permitted(code, command.value[1], method_of(command, k)))

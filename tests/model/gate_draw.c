@@ -70,7 +70,7 @@ static uint32_t present_count(uint32_t level, uint32_t method, uint32_t count)
 {
     uint32_t present = 0;
 
-    while (present < count && model_present(level, 4 * ((method + present) % METHODS)))
+    while (present < count && model_present(level, (method + present) % METHODS))
         present++;
     return present;
 }

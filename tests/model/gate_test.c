@@ -469,7 +469,7 @@ static uint32_t method_at(struct reading command, uint32_t i)
 
 static bool is_lacking(const struct submission *submission, struct reading command, uint32_t i)
 {
-    return !model_present(submission->level, 4 * method_at(command, i));
+    return !model_present(submission->level, method_at(command, i));
 }
 
 static bool is_forbidden(const struct submission *submission, struct reading command, uint32_t i)

@@ -4,41 +4,53 @@
 
 #include "channel.h"
 
-/* The place of each number; 64-bit ones have two words, low half first. */
-enum {
-    AT_LEVEL,
-    AT_MODE,
-    AT_SLI,
-    AT_IB_ORDER,
-    AT_DMA_LIMIT,
-    AT_GET,
-    AT_PUT = AT_GET + 2,
-    AT_COUNT = AT_PUT + 2,
-    AT_METHOD,
-    AT_SUBCHANNEL,
-    AT_INCREASING,
-    AT_COUNT_AWAITED,
-    AT_SUBROUTINE,
-    AT_RETURN_ADDRESS,
-    AT_IB_GET,
-    AT_IB_PUT,
-    AT_NOT_MAIN,
-    AT_DMA_MGET,
-    AT_DMA_MGET_VALID = AT_DMA_MGET + 2,
-    AT_SLI_MASK,
-    AT_SLI_ACTIVE,
-    AT_PUSHER_ERROR,
-    AT_ENGINES,
-    AT_LAST_ENGINE = AT_ENGINES + SUBCHANNELS,
-    AT_REF,
-    AT_DMA_SEMAPHORE,
-    AT_SEMAPHORE_OFFSET,
-    AT_OFFSET_VALID,
-    AT_ACQUIRE_ACTIVE,
-    AT_ACQUIRE_VALUE,
-    AT_PULLER_ERROR,
-    CHANNEL_WORDS
-};
+/* The numbers of a channel, in the order of their words: the name of the place, and the field. One of 64 bits
+ * has two words, the lower half first. crates/channel_vectors/src/layout.rt, which says how a field is added,
+ * has the same names and places: tests/host compares the two lists. */
+#define CHANNEL_NUMBERS(NUMBER, WIDE)           \
+    NUMBER(LEVEL, setup.setting.level)          \
+    NUMBER(MODE, setup.setting.mode)            \
+    NUMBER(SLI, setup.setting.sli)              \
+    NUMBER(IB_ORDER, setup.ib_order)            \
+    NUMBER(DMA_LIMIT, setup.dma_limit)          \
+    WIDE(GET, get)                              \
+    WIDE(PUT, put)                              \
+    NUMBER(COUNT, count)                        \
+    NUMBER(METHOD, method)                      \
+    NUMBER(SUBCHANNEL, subchannel)              \
+    NUMBER(INCREASING, increasing)              \
+    NUMBER(COUNT_AWAITED, count_awaited)        \
+    NUMBER(SUBROUTINE, subroutine)              \
+    NUMBER(RETURN_ADDRESS, return_address)      \
+    NUMBER(IB_GET, ib_get)                      \
+    NUMBER(IB_PUT, ib_put)                      \
+    NUMBER(NOT_MAIN, not_main)                  \
+    WIDE(DMA_MGET, dma_mget)                    \
+    NUMBER(DMA_MGET_VALID, dma_mget_valid)      \
+    NUMBER(SLI_MASK, setup.sli_mask)            \
+    NUMBER(SLI_ACTIVE, sli_active)              \
+    NUMBER(PUSHER_ERROR, pusher_error)          \
+    NUMBER(ENGINE_0, engines[0])                \
+    NUMBER(ENGINE_1, engines[1])                \
+    NUMBER(ENGINE_2, engines[2])                \
+    NUMBER(ENGINE_3, engines[3])                \
+    NUMBER(ENGINE_4, engines[4])                \
+    NUMBER(ENGINE_5, engines[5])                \
+    NUMBER(ENGINE_6, engines[6])                \
+    NUMBER(ENGINE_7, engines[7])                \
+    NUMBER(LAST_ENGINE, last_engine)            \
+    NUMBER(REF, ref)                            \
+    NUMBER(DMA_SEMAPHORE, dma_semaphore)        \
+    NUMBER(SEMAPHORE_OFFSET, semaphore_offset)  \
+    NUMBER(OFFSET_VALID, offset_valid)          \
+    NUMBER(ACQUIRE_ACTIVE, acquire_active)      \
+    NUMBER(ACQUIRE_VALUE, acquire_value)        \
+    NUMBER(PULLER_ERROR, puller_error)
+
+/* The place of each number's word, or of the lower of its two. */
+#define NUMBER_PLACE(name, field) AT_##name,
+#define WIDE_PLACE(name, field) AT_##name, AT_##name##_HIGH,
+enum { CHANNEL_NUMBERS(NUMBER_PLACE, WIDE_PLACE) CHANNEL_WORDS };
 
 struct record {
     uint32_t word[CHANNEL_WORDS];
@@ -47,7 +59,9 @@ struct record {
 /* Whether the number at a place has 64 bits. */
 static inline bool record_is_wide(unsigned at)
 {
-    return at == AT_GET || at == AT_PUT || at == AT_DMA_MGET;
+#define NUMBER_IS_WIDE(name, field)
+#define WIDE_IS_WIDE(name, field) at == AT_##name ||
+    return CHANNEL_NUMBERS(NUMBER_IS_WIDE, WIDE_IS_WIDE) false;
 }
 
 static inline void record_set(struct record *record, unsigned at, uint64_t number)
@@ -66,81 +80,20 @@ static inline uint64_t record_get(const struct record *record, unsigned at)
 
 static inline struct record record_of(const struct channel *channel)
 {
-    const struct setup *setup = &channel->setup;
-    struct record record;
+    struct record record = {{0}};
 
-    record_set(&record, AT_LEVEL, setup->setting.level);
-    record_set(&record, AT_MODE, setup->setting.mode);
-    record_set(&record, AT_SLI, setup->setting.sli);
-    record_set(&record, AT_IB_ORDER, setup->ib_order);
-    record_set(&record, AT_DMA_LIMIT, setup->dma_limit);
-    record_set(&record, AT_GET, channel->get);
-    record_set(&record, AT_PUT, channel->put);
-    record_set(&record, AT_COUNT, channel->count);
-    record_set(&record, AT_METHOD, channel->method);
-    record_set(&record, AT_SUBCHANNEL, channel->subchannel);
-    record_set(&record, AT_INCREASING, channel->increasing);
-    record_set(&record, AT_COUNT_AWAITED, channel->count_awaited);
-    record_set(&record, AT_SUBROUTINE, channel->subroutine);
-    record_set(&record, AT_RETURN_ADDRESS, channel->return_address);
-    record_set(&record, AT_IB_GET, channel->ib_get);
-    record_set(&record, AT_IB_PUT, channel->ib_put);
-    record_set(&record, AT_NOT_MAIN, channel->not_main);
-    record_set(&record, AT_DMA_MGET, channel->dma_mget);
-    record_set(&record, AT_DMA_MGET_VALID, channel->dma_mget_valid);
-    record_set(&record, AT_SLI_MASK, setup->sli_mask);
-    record_set(&record, AT_SLI_ACTIVE, channel->sli_active);
-    record_set(&record, AT_PUSHER_ERROR, channel->pusher_error);
-    for (unsigned i = 0; i < SUBCHANNELS; i++)
-        record_set(&record, AT_ENGINES + i, channel->engines[i]);
-    record_set(&record, AT_LAST_ENGINE, channel->last_engine);
-    record_set(&record, AT_REF, channel->ref);
-    record_set(&record, AT_DMA_SEMAPHORE, channel->dma_semaphore);
-    record_set(&record, AT_SEMAPHORE_OFFSET, channel->semaphore_offset);
-    record_set(&record, AT_OFFSET_VALID, channel->offset_valid);
-    record_set(&record, AT_ACQUIRE_ACTIVE, channel->acquire_active);
-    record_set(&record, AT_ACQUIRE_VALUE, channel->acquire_value);
-    record_set(&record, AT_PULLER_ERROR, channel->puller_error);
+#define SET_NUMBER(name, field) record_set(&record, AT_##name, channel->field);
+    CHANNEL_NUMBERS(SET_NUMBER, SET_NUMBER)
     return record;
 }
 
-/* The other way: the channel whose words these are. */
+/* The other way: the channel whose words these are. A flag is set by any word but 0. */
 static inline struct channel channel_of(const struct record *record)
 {
-    const uint32_t *word = record->word;
-    struct channel channel = {
-        .setup = {{word[AT_LEVEL], word[AT_MODE], word[AT_SLI] != 0},
-                  word[AT_IB_ORDER],
-                  word[AT_DMA_LIMIT],
-                  word[AT_SLI_MASK]},
-        .get = record_get(record, AT_GET),
-        .put = record_get(record, AT_PUT),
-        .count = word[AT_COUNT],
-        .method = word[AT_METHOD],
-        .subchannel = word[AT_SUBCHANNEL],
-        .increasing = word[AT_INCREASING] != 0,
-        .count_awaited = word[AT_COUNT_AWAITED] != 0,
-        .subroutine = word[AT_SUBROUTINE] != 0,
-        .return_address = word[AT_RETURN_ADDRESS],
-        .ib_get = word[AT_IB_GET],
-        .ib_put = word[AT_IB_PUT],
-        .not_main = word[AT_NOT_MAIN] != 0,
-        .dma_mget = record_get(record, AT_DMA_MGET),
-        .dma_mget_valid = word[AT_DMA_MGET_VALID] != 0,
-        .sli_active = word[AT_SLI_ACTIVE] != 0,
-        .pusher_error = word[AT_PUSHER_ERROR],
-        .last_engine = word[AT_LAST_ENGINE],
-        .ref = word[AT_REF],
-        .dma_semaphore = word[AT_DMA_SEMAPHORE],
-        .semaphore_offset = word[AT_SEMAPHORE_OFFSET],
-        .offset_valid = word[AT_OFFSET_VALID] != 0,
-        .acquire_active = word[AT_ACQUIRE_ACTIVE] != 0,
-        .acquire_value = word[AT_ACQUIRE_VALUE],
-        .puller_error = word[AT_PULLER_ERROR],
-    };
+    struct channel channel = {0};
 
-    for (unsigned i = 0; i < SUBCHANNELS; i++)
-        channel.engines[i] = word[AT_ENGINES + i];
+#define GET_NUMBER(name, field) channel.field = record_get(record, AT_##name);
+    CHANNEL_NUMBERS(GET_NUMBER, GET_NUMBER)
     return channel;
 }
 

@@ -275,9 +275,11 @@ struct written model_write(struct setting setting, struct reading command, uint3
 }
 
 /* "Present: 0x00 always; 0x10 to 0x24 at level 5; 0x50 from 1; 0x60 to 0x6c from 2; 0x80 from 3." Only "a
- * method below 0x100" can be lacking. */
-bool model_present(uint32_t level, uint32_t method)
+ * method below 0x100" can be lacking. These are byte numbers; that of a large number has more than 32 bits. */
+bool model_present(uint32_t level, uint32_t number)
 {
+    uint64_t method = UINT64_C(4) * number;
+
     if (method == 0x00 || method >= 0x100)
         return true;
     if (method >= 0x10 && method <= 0x24)

@@ -72,7 +72,8 @@ struct reading model_read_at(struct setting setting, const uint32_t *words, size
 /* Writes a command into an output of `room` words. Values that the command doesn't use are not looked at. */
 struct written model_write(struct setting setting, struct reading command, uint32_t *out, size_t room);
 
-/* Whether a level has a method, given by its byte number; levels above 5 count as "at level 5". */
-bool model_present(uint32_t level, uint32_t method);
+/* Whether a level has a method, given by its number, a fourth of its byte number; levels above 5 count as "at
+ * level 5". */
+bool model_present(uint32_t level, uint32_t number);
 
 #endif

@@ -300,24 +300,27 @@ static void test_places(void)
 }
 
 /* "Present: 0x00 always; 0x10 to 0x24 at level 5; 0x50 from 1; 0x60 to 0x6c from 2; 0x80 from 3." By the
- * count of methods below 0x100 at each level: 1, then 1 more, 13 more, 1 more, none more, 21 more. */
+ * count of methods below 0x100 at each level: 1, then 1 more, 4 more, 1 more, none more, 6 more. From 0x100,
+ * number 0x40, all are there: also those whose byte number, cut to 32 bits, one might lack. */
 static void test_present(void)
 {
-    static const unsigned present[] = {1, 2, 15, 16, 16, 37, 37};
+    static const unsigned present[] = {1, 2, 6, 7, 7, 13, 13};
+    static const uint32_t larger[] = {0x40, 0x50, 0x4001, 0x3fffffff, 0x40000001, 0x80000005, UINT32_MAX};
 
     for (uint32_t level = 0; level <= 6; level++) {
         struct setting setting = {level, MODE_NV04, false};
         unsigned count = 0;
 
-        for (uint32_t method = 0; method < 0x100; method++) {
-            bool here = model_present(level, method);
+        for (uint32_t number = 0; number < 0x40; number++) {
+            bool here = model_present(level, number);
 
             count += here;
-            check(level == 0 || here || !model_present(level - 1, method), "later levels have all", setting,
-                  method, 0);
+            check(level == 0 || here || !model_present(level - 1, number), "later levels have all", setting,
+                  number, 0);
         }
         check(count == present[level], "count of methods present", setting, count, present[level]);
-        check(model_present(level, 0x100) && model_present(level, UINT32_MAX), "0x100 up", setting, 0, 0);
+        for (unsigned i = 0; i < sizeof larger / sizeof larger[0]; i++)
+            check(model_present(level, larger[i]), "0x100 up", setting, larger[i], 0);
     }
 }
 

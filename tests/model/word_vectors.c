@@ -325,22 +325,26 @@ static void put_writes(struct vectors *vectors)
 
 /* ---- PRESENT ---- */
 
-static void put_present(struct vectors *vectors, uint32_t level, uint32_t method)
+static void put_present(struct vectors *vectors, uint32_t level, uint32_t number)
 {
-    bool present = model_present(level, method);
-    uint32_t words[] = {level, method, present};
+    bool present = model_present(level, number);
+    uint32_t words[] = {level, number, present};
 
     put_record(vectors, PRESENT, words, sizeof words / sizeof words[0], present);
 }
 
+/* Every number up to 0x110, so that those which are byte numbers of special methods are among them; then
+ * larger ones, from 2^30 on such whose byte number has more than 32 bits: cut to 32, it would be that of a
+ * special method, or of one that no level has. */
 static void put_presents(struct vectors *vectors)
 {
     static const uint32_t levels[] = {0, 1, 2, 3, 4, 5, 6, UINT32_MAX};
-    static const uint32_t larger[] = {0x150, 0x180, 0x1fc, 0x1ffc, 0x2000, 0x10000, 0x10050, UINT32_MAX};
+    static const uint32_t larger[] = {0x7ff,      0x800,      0x4000,     0x4014,     0x3fffffff, 0x40000000,
+                                      0x40000001, 0x40000014, 0x80000004, 0xc0000020, UINT32_MAX};
 
     for (unsigned i = 0; i < sizeof levels / sizeof levels[0]; i++) {
-        for (uint32_t method = 0; method <= 0x110; method++)
-            put_present(vectors, levels[i], method);
+        for (uint32_t number = 0; number <= 0x110; number++)
+            put_present(vectors, levels[i], number);
         for (unsigned j = 0; j < sizeof larger / sizeof larger[0]; j++)
             put_present(vectors, levels[i], larger[j]);
     }

@@ -13,9 +13,10 @@ use Rattle.word.proofs.Tests.{both, not-plain, or-plain, and-plain, less-plain,
 use Rattle.puller.specs.Record.{engineOf}
 use Rattle.puller.specs.declared.record.Puller.{Puller}
 use Rattle.word.proofs.Lowest.{found-none, none-found}
+use Rattle.pusher.specs.Widths.{SetUp, Narrow}
 use Rattle.pusher.specs.declared.record.Setup.{Setup}
-use Rattle.channel.specs.State.{orderRefused, setupFits, Width, within, addressBits, widths, addresses, aligned, tooWide, enginesFit, wellFormed}
-use Rattle.channel.specs.Promises.{SetUp, Narrow, WellFormed}
+use Rattle.channel.specs.State.{orderRefused, setupFits, Width, within, addressBits, widths, addresses, aligned, engineTooWide, enginesFit, wellFormed}
+use Rattle.channel.specs.Promises.{WellFormed}
 use Rattle.channel.specs.declared.record.Channel.{Channel}
 
 -- every number of a list within its width
@@ -120,8 +121,8 @@ module _ (s : Setup) where
 engines-plain : (p : Puller) → enginesFit p ≡ true ↔ ((subchannel : ℕ) → subchannel < 8 → engineOf p subchannel < 2 ^ 5)
 unfolding enginesFit
 engines-plain p = (
-  λ e i l. leb-false _ _ (found-none (tooWide p) 8 (not-true _ e) i l),
-  λ h. ap not (none-found (tooWide p) 8 (λ i l. lt-leb _ _ (h i l))),
+  λ e i l. leb-false _ _ (found-none (engineTooWide p) 8 (not-true _ e) i l),
+  λ h. ap not (none-found (engineTooWide p) 8 (λ i l. lt-leb _ _ (h i l))),
 )
 
 module _ (c : Channel) where

@@ -5,10 +5,12 @@ pub mod Puts
 pub mod Steps
 pub mod Formed
 pub mod Refusals
-pub mod Said
-pub mod Keeping
+pub mod ByRole
 pub mod OpensPlainly
-pub mod Kept
+pub mod StaysWellFormed
 pub mod Promises
-pub mod Carried
+pub mod AtMostOneMove
+pub mod Says
 pub mod ReadAs
+pub mod Idling
+pub mod Many

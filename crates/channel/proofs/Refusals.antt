@@ -9,11 +9,12 @@ use native.Mathlib.Omega.{arith}
 use lib.Dec.{eqb, leb, ltb}
 use lib.ListN.{length}
 use borrow.Author.Tests.{eqb-true, eqb-false, le-leb, leb-true}
-use Rattle.word.specs.First.{choose, Case, first, Plain}
+use Rattle.word.specs.First.{choose, Case, first, PlainCase}
 use Rattle.word.specs.Setting.{refusedOr, sizeRefused}
 use Rattle.word.specs.declared.setting.Refusal.{Refusal}
 use Rattle.word.proofs.First.{Agree, first-none, choose-true, choose-false}
 use Rattle.word.proofs.Tests.{not-plain, or-plain, less-plain, equal-plain}
+use Rattle.channel.specs.Loan.{Loan}
 use Rattle.channel.specs.State.{wellFormed}
 use Rattle.channel.specs.Opening.{tableRefused}
 use Rattle.channel.specs.Putting.{putRefused, putCases}
@@ -40,11 +41,11 @@ unfolding refusedOr
 refused-one refuse a n = refl
 
 -- where no case holds, no plain condition does
-abbrev pub NoneOf : List Plain → Type 0
+abbrev pub NoneOf : List PlainCase → Type 0
 NoneOf [] = Unit {0}
 NoneOf (p ∷ ps) = (p .holds → ⊥) × NoneOf ps
 
-pub none-of : (cs : List Case) (ps : List Plain) → Agree cs ps → first cs ≡ none → NoneOf ps
+pub none-of : (cs : List Case) (ps : List PlainCase) → Agree cs ps → first cs ≡ none → NoneOf ps
 none-of [] [] a e = tt
 none-of [] (p ∷ ps) a e = absurd a
 none-of (c ∷ cs) [] a e = absurd a
@@ -80,13 +81,15 @@ put-plain c n = go (eqb (c .setup .setting .mode .number) 1) refl
 pub put-agree : (c : Channel) (n : ℕ) → Agree (putCases c n) (putPlain c n)
 put-agree c n = (refl, not-plain (wellFormed c) (formed-plain c), (refl, put-plain c n, tt))
 
-pub step-agree : (c : Channel) (ws t sems : List ℕ) → Agree (stepCases c ws t sems) (stepPlain c ws t sems)
-step-agree c ws t sems = (
-  refl,
-  not-plain (wellFormed c) (formed-plain c),
-  (
-    refl,
-    or-plain (sizeRefused (length ws)) (sizeRefused (length sems)) (less-plain 1048576 (length ws)) (less-plain 1048576 (length sems)),
-    (refl, table-plain t, tt),
-  ),
-)
+pub step-agree : (c : Channel) (l : Loan) → Agree (stepCases c l) (stepPlain c l)
+step-agree c l =
+    let words = length (l .pusher .words) in
+    let semaphores = length (l .puller .semaphores) in (
+      refl,
+      not-plain (wellFormed c) (formed-plain c),
+      (
+        refl,
+        or-plain (sizeRefused words) (sizeRefused semaphores) (less-plain 1048576 words) (less-plain 1048576 semaphores),
+        (refl, table-plain (l .puller .table), tt),
+      ),
+    )

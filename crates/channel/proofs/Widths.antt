@@ -14,7 +14,7 @@ use Rattle.word.specs.Lowest.{lowest, found?}
 use Rattle.puller.specs.Record.{engineOf}
 use Rattle.puller.specs.declared.record.Puller.{Puller}
 use Rattle.word.proofs.Lowest.{lowest-at}
-use Rattle.channel.specs.State.{setupFits, Width, _in-bits_, within, addressWidths, runWidths, engineWidths, tooWide, enginesFit, otherWidths, addresses, aligned, wellFormed}
+use Rattle.channel.specs.State.{setupFits, Width, _in-bits_, within, addressWidths, runWidths, engineWidths, engineTooWide, enginesFit, otherWidths, addresses, aligned, wellFormed}
 use Rattle.channel.specs.declared.record.Channel.{Channel}
 use Rattle.channel.proofs.record.Channel.{the-type}
 
@@ -54,11 +54,11 @@ one-address a = and-true (eqb (a % 4) 0)
 
 -- an engine that is too wide, or none: how a loop over the eight comes to it
 module _ (p : Puller) where
-  pub engine-wide : (k : ℕ) → lowest (tooWide p) k ≡ none → k < 8 → 32 ≤ engineOf p k → enginesFit p ≡ false
+  pub engine-wide : (k : ℕ) → lowest (engineTooWide p) k ≡ none → k < 8 → 32 ≤ engineOf p k → enginesFit p ≡ false
   unfolding enginesFit found?
-  engine-wide k e l h = rw (lowest-at (tooWide p) 8 k e l (le-leb 32 (engineOf p k) h))
+  engine-wide k e l h = rw (lowest-at (engineTooWide p) 8 k e l (le-leb 32 (engineOf p k) h))
 
-  pub engines-narrow : lowest (tooWide p) 8 ≡ none → enginesFit p ≡ true
+  pub engines-narrow : lowest (engineTooWide p) 8 ≡ none → enginesFit p ≡ true
   unfolding enginesFit found?
   engines-narrow e = rw e
 

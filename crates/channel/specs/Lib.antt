@@ -1,7 +1,11 @@
+pub mod Loan
+pub mod Record
 pub mod State
 pub mod Opening
 pub mod Putting
 pub mod Stepping
+pub mod Idle
+pub mod Many
 pub mod Contracts
 pub mod Answers
 pub mod Promises

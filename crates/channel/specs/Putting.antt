@@ -8,7 +8,7 @@ use Rattle.word.specs.Setting.{STATE, PUT, refusedOr}
 use Rattle.word.specs.declared.setting.Refusal.{Refusal}
 use Rattle.word.specs.declared.setting.Check.the-variants as check
 use Rattle.pusher.specs.Record as pusher
-use Rattle.pusher.specs.declared.record.Pusher.{Pusher}
+use Rattle.channel.specs.Record.{withPusher}
 use Rattle.channel.specs.State.{wellFormed}
 use Rattle.channel.specs.declared.record.Channel.{Channel}
 use Rattle.channel.specs.declared.putting.Put.{Put}
@@ -22,9 +22,6 @@ abbrev pub putCases : Channel → ℕ → List Case
 putCases c n = STATE when not (wellFormed c) ∷ PUT when putRefused c n ∷ []
 
 -- in IB mode put is ib_put; "Put may be set on a stopped channel; it stays stopped"
-abbrev pub withPusher : Channel → Pusher → Channel
-withPusher c p = record { setup = c .setup; pusher = p; puller = c .puller }
-
 unfoldable pub withPut : Channel → ℕ → Channel
 withPut c n =
     choose (eqb (c .setup .setting .mode .number) 1) (withPusher c (pusher.withIb (c .pusher) (c .pusher .ib .get) n))

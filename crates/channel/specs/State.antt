@@ -60,11 +60,11 @@ runWidths p = p .run .count in-bits 24 ∷ p .sli .mask in-bits 12 ∷ p .run .m
 abbrev pub engineWidths : Puller → List Width
 engineWidths p = p .last in-bits 5 ∷ []
 
-abbrev pub tooWide : Puller → ℕ → Bool
-tooWide p subchannel = leb (2 ^ 5) (engineOf p subchannel)
+abbrev pub engineTooWide : Puller → ℕ → Bool
+engineTooWide p subchannel = leb (2 ^ 5) (engineOf p subchannel)
 
 unfoldable pub enginesFit : Puller → Bool
-enginesFit p = not (found? (lowest (tooWide p) 8))
+enginesFit p = not (found? (lowest (engineTooWide p) 8))
 
 -- "all other numbers 32"
 abbrev pub otherWidths : Channel → List Width

@@ -1,4 +1,6 @@
-// One channel of the card: set-up, pusher and puller; how it is opened, how put is set, and one step.
+// One channel of the card: set-up, pusher and puller; how it is opened, how put is set, one step, and
+// whether a further one would be idle.
+mod idle;
 mod opening;
 mod putting;
 mod record;

@@ -62,12 +62,6 @@ impl Channel {
         } else {
             pusher.put = put as u64;
         }
-        let setup = self.setup;
-        let puller = self.puller;
-        Channel {
-            setup,
-            pusher,
-            puller,
-        }
+        self.with_halves(pusher, self.puller)
     }
 }

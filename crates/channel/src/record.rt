@@ -2,6 +2,7 @@
 ghost use mathlib.Core.Path.{_≡_};
 ghost use mathlib.Core.Bool.{true, _&&_};
 ghost use Prim.Native.Nat.{_^_};
+ghost use Rattle.channel.specs.Record.{withHalves};
 ghost use Rattle.channel.specs.Opening.{restingAt};
 ghost use Rattle.channel.specs.State.{setupFits, within, aligned, addressBits, addressWidths, addresses, runWidths, engineWidths, enginesFit, wellFormed};
 use puller::Acquire;
@@ -75,24 +76,33 @@ pub(crate) fn resting(setup: Setup, mask: u32, active: bool) -> Channel
 }
 
 impl Channel {
+    // The channel with other halves.
+    pub(crate) fn with_halves(self, pusher: Pusher, puller: Puller) -> Channel
+        ensures { λ r. ⌜ r ≡ withHalves self pusher puller ⌝ }
+    {
+        let setup = self.setup;
+        Channel {
+            setup,
+            pusher,
+            puller,
+        }
+    }
+
     // Whether the record is within the paper's widths, alignments and combinations; else it is
     // refused as STATE. Numbers of 32 bits fit by their type.
     pub(crate) fn well_formed(self) -> bool
         ensures { λ r. ⌜ r ≡ wellFormed self ⌝ }
     {
-        let setup = self.setup;
-        if !set_up(setup) {
+        if !set_up(self.setup) {
             return false;
         }
-        let pusher = self.pusher;
-        if !addressed(setup, pusher) {
+        if !addressed(self.setup, self.pusher) {
             return false;
         }
-        if !running(pusher) {
+        if !running(self.pusher) {
             return false;
         }
-        let puller = self.puller;
-        bound(puller)
+        bound(self.puller)
     }
 }
 

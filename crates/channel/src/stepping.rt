@@ -1,17 +1,23 @@
-// One step of the channel.
+// One step of the channel: what it does, it does to the halves, which `step` takes from the channel
+// and puts back.
 ghost use mathlib.Core.Path.{_≡_};
-ghost use Rattle.channel.specs.Stepping.{role, act, isStopped, waited, submitted, moved, refusing};
-ghost use Rattle.channel.specs.Contracts.{Leaves, StepsTo};
+ghost use Rattle.puller.specs.Loan.{toPuller};
+ghost use Rattle.channel.specs.Loan.{toStep};
+ghost use Rattle.channel.specs.Stepping.{role, act, isStopped, waited, finished, withActed, refusing};
+ghost use Rattle.channel.specs.Contracts.{StepsTo, Affects};
 use crate::opening::no_table;
 use crate::record::Channel;
 use event::Event;
 use event::Kind;
-use event::Method;
+use puller::Puller;
 use puller::retry;
 use puller::take;
 use pusher::Did;
+use pusher::Pushed;
 use pusher::Pusher;
+use pusher::Setup;
 use pusher::push;
+use word::Level;
 use word::MOST_WORDS;
 use word::Refusal;
 
@@ -27,6 +33,13 @@ pub struct Stepped {
     pub channel: Channel,
 }
 
+// What a step says, and the halves after it.
+struct Acted {
+    event: Event,
+    pusher: Pusher,
+    puller: Puller,
+}
+
 impl Channel {
     // One step, with the words of the pushbuffer, the IB entries, the object table and the semaphore
     // words lent to it.
@@ -37,7 +50,7 @@ impl Channel {
         table: &[u32],
         semaphores: &mut [u32],
     ) -> Stepped
-        ensures { λ r. ⌜ StepsTo self (now (words .entry)) (now (entries .entry)) (now (table .entry)) (now (semaphores .entry)) r (now (semaphores .exit)) ⌝ }
+        ensures { λ r. ⌜ StepsTo self (toStep (now (words .entry)) (now (entries .entry)) (now (table .entry)) (now (semaphores .entry))) r (now (semaphores .exit)) ⌝ }
     {
         if !self.well_formed() {
             return self.refused(Refusal::STATE);
@@ -51,7 +64,27 @@ impl Channel {
         if no_table(table.len()) {
             return self.refused(Refusal::TABLE);
         }
-        self.act(words, entries, table, semaphores)
+        let acted = act(
+            self.setup,
+            self.pusher,
+            self.puller,
+            words,
+            entries,
+            table,
+            semaphores,
+        );
+        self.with_acted(acted)
+    }
+
+    // What a step says, with the channel that has the halves after it.
+    fn with_acted(self, acted: Acted) -> Stepped
+        ensures { λ r. ⌜ r ≡ withActed self acted ⌝ }
+    {
+        let event = acted.event;
+        Stepped {
+            answer: Answer::Event { event },
+            channel: self.with_halves(acted.pusher, acted.puller),
+        }
     }
 
     fn refused(self, refusal: Refusal) -> Stepped
@@ -62,114 +95,87 @@ impl Channel {
             channel: self,
         }
     }
+}
 
-    // Stopped, or an active acquire's retry, or a move of the pusher.
-    fn act(self, words: &[u32], entries: &[u64], table: &[u32], semaphores: &mut [u32]) -> Stepped
-        ensures { λ r. ⌜ Leaves (act self (now (words .entry)) (now (entries .entry)) (now (table .entry)) (now (semaphores .entry)) (role self)) r (now (semaphores .exit)) ⌝ }
-    {
-        if self.stopped() {
-            return Stepped {
-                answer: Answer::Event {
-                    event: Event::Plain {
-                        kind: Kind::Stopped,
-                    },
-                },
-                channel: self,
-            };
-        }
-        if self.puller.acquire.active {
-            return self.wait(semaphores);
-        }
-        self.advance(words, entries, table, semaphores)
+// Stopped, or an active acquire's retry, or a move of the pusher and what follows from it.
+fn act(
+    setup: Setup,
+    pusher: Pusher,
+    puller: Puller,
+    words: &[u32],
+    entries: &[u64],
+    table: &[u32],
+    semaphores: &mut [u32],
+) -> Acted
+    ensures { λ r. ⌜ Affects (act setup pusher puller (toStep (now (words .entry)) (now (entries .entry)) (now (table .entry)) (now (semaphores .entry))) (role pusher puller)) r (now (semaphores .exit)) ⌝ }
+{
+    if stopped(pusher, puller) {
+        return Acted {
+            event: Event::Plain {
+                kind: Kind::Stopped,
+            },
+            pusher,
+            puller,
+        };
     }
-
-    // Whether an error of either half has stopped the channel.
-    fn stopped(self) -> bool
-        ensures { λ r. ⌜ r ≡ isStopped self ⌝ }
-    {
-        let pusher = self.pusher;
-        if pusher.stopped() {
-            return true;
-        }
-        let puller = self.puller;
-        puller.stopped()
+    if puller.acquire.active {
+        return wait(setup.setting.level, pusher, puller, semaphores);
     }
+    let pushed = push(setup, pusher, words, entries);
+    finish(setup.setting.level, pushed, puller, table, semaphores)
+}
 
-    // The semaphore of an active acquire, read again.
-    fn wait(self, semaphores: &[u32]) -> Stepped
-        ensures { λ r. ⌜ r ≡ waited self (now (semaphores .entry)) ⌝ }
-    {
-        let setup = self.setup;
-        let pusher = self.pusher;
-        let level = self.setup.setting.level;
-        let puller = self.puller;
-        let taken = retry(level, puller, semaphores);
-        let event = taken.event;
-        let puller = taken.puller;
-        Stepped {
-            answer: Answer::Event { event },
-            channel: Channel {
-                setup,
+// Whether an error of either half has stopped the channel.
+pub(crate) fn stopped(pusher: Pusher, puller: Puller) -> bool
+    ensures { λ r. ⌜ r ≡ isStopped pusher puller ⌝ }
+{
+    if pusher.stopped() {
+        return true;
+    }
+    puller.stopped()
+}
+
+// The semaphore of an active acquire, read again.
+fn wait(level: Level, pusher: Pusher, puller: Puller, semaphores: &[u32]) -> Acted
+    ensures { λ r. ⌜ r ≡ waited level pusher puller (now (semaphores .entry)) ⌝ }
+{
+    let taken = retry(level, puller, semaphores);
+    let event = taken.event;
+    let puller = taken.puller;
+    Acted {
+        event,
+        pusher,
+        puller,
+    }
+}
+
+// What follows from a move of the pusher: the puller takes what it submits in the same step.
+fn finish(
+    level: Level,
+    pushed: Pushed,
+    puller: Puller,
+    table: &[u32],
+    semaphores: &mut [u32],
+) -> Acted
+    ensures { λ r. ⌜ Affects (finished level (pushed .pusher) puller (pushed .did) (toPuller (now (table .entry)) (now (semaphores .entry)))) r (now (semaphores .exit)) ⌝ }
+{
+    let pusher = pushed.pusher;
+    let did = pushed.did;
+    match did {
+        Did::Event { event } => Acted {
+            event,
+            pusher,
+            puller,
+        },
+        Did::Submit { method } => {
+            let taken = take(level, puller, method, table, semaphores);
+            let event = taken.event;
+            let puller = taken.puller;
+            Acted {
+                event,
                 pusher,
                 puller,
-            },
-        }
-    }
-
-    // A move of the pusher; the puller takes what it submits in the same step.
-    fn advance(
-        self,
-        words: &[u32],
-        entries: &[u64],
-        table: &[u32],
-        semaphores: &mut [u32],
-    ) -> Stepped
-        ensures { λ r. ⌜ Leaves (moved self (now (words .entry)) (now (entries .entry)) (now (table .entry)) (now (semaphores .entry))) r (now (semaphores .exit)) ⌝ }
-    {
-        let setup = self.setup;
-        let pusher = self.pusher;
-        let pushed = push(setup, pusher, words, entries);
-        let pusher = pushed.pusher;
-        let did = pushed.did;
-        match did {
-            Did::Event { event } => {
-                let puller = self.puller;
-                Stepped {
-                    answer: Answer::Event { event },
-                    channel: Channel {
-                        setup,
-                        pusher,
-                        puller,
-                    },
-                }
             }
-            Did::Submit { method } => self.submit(pusher, method, table, semaphores),
-        }
-    }
-
-    // A method that the pusher has submitted.
-    fn submit(
-        self,
-        pusher: Pusher,
-        method: Method,
-        table: &[u32],
-        semaphores: &mut [u32],
-    ) -> Stepped
-        ensures { λ r. ⌜ Leaves (submitted self pusher method (now (table .entry)) (now (semaphores .entry))) r (now (semaphores .exit)) ⌝ }
-    {
-        let setup = self.setup;
-        let level = self.setup.setting.level;
-        let puller = self.puller;
-        let taken = take(level, puller, method, table, semaphores);
-        let event = taken.event;
-        let puller = taken.puller;
-        Stepped {
-            answer: Answer::Event { event },
-            channel: Channel {
-                setup,
-                pusher,
-                puller,
-            },
         }
     }
 }

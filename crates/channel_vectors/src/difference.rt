@@ -1,4 +1,5 @@
 // Where the library and the model part.
+use crate::layout::CHANNEL_WORDS;
 use crate::pool::at;
 use crate::pool::put;
 
@@ -66,6 +67,10 @@ pub(crate) fn compared(part: u32, wanted: &[u32], got: &[u32]) -> Difference {
 
 pub(crate) fn answers(wanted: [u32; 6], got: [u32; 6]) -> Difference {
     compared(ANSWER, &wanted, &got)
+}
+
+pub(crate) fn channels(wanted: [u32; CHANNEL_WORDS], got: [u32; CHANNEL_WORDS]) -> Difference {
+    compared(CHANNEL, &wanted, &got)
 }
 
 // Holds one semaphore word to the model's, and sets it back to 0.

@@ -1,5 +1,5 @@
 // The words on standard input.
-ghost use Prim.Native.Nat.{_<_};
+ghost use Prim.Native.Nat.{_<_, _≤_};
 use libc::STDIN_FILENO;
 
 // The next word; 0 where the input ends.
@@ -35,7 +35,9 @@ pub(crate) fn pair_of(low: u32, high: u32) -> u64 {
 }
 
 // The next number, or `most` where it is more: a damaged count ends sooner than its loop would.
-pub(crate) fn next_up_to(most: usize) -> usize {
+pub(crate) fn next_up_to(most: usize) -> usize
+    ensures { λ r. ⌜ r ≤ most ⌝ }
+{
     let n = next_word() as usize;
     if n < most { n } else { most }
 }

@@ -5,9 +5,11 @@ mod answer;
 mod constant;
 mod difference;
 mod input;
-mod model;
+mod layout;
 mod opening;
 mod operation;
+mod outcome;
+mod pair;
 mod pool;
 mod run;
 mod single;
@@ -20,9 +22,14 @@ use difference::same;
 use difference::unknown;
 use input::next_word;
 use libc::STDOUT_FILENO;
+use pool::MOST_GIVEN;
+use pool::TABLE_WORDS;
 use verdict::Verdict;
 use verdict::alone;
 use verdict::sum;
+
+// One word more than may be lent, so that SIZE is tried.
+const LARGE_WORDS: usize = 1_048_577;
 
 // More records than a file of vectors has: the run ends with the input.
 const MOST_RECORDS: u32 = 1_000_000;
@@ -46,7 +53,7 @@ struct Tally {
 
 fn main() {
     constant::constants();
-    let tally = tallied_in([0u32; 64], [0u32; 1_048_577], [0u64; 32], [0u32; 4104]);
+    let tally = tallied_in([0u32; MOST_GIVEN], [0u32; LARGE_WORDS], [0u32; TABLE_WORDS]);
     line(b"open ", tally.open);
     line(b"run ", tally.run);
     line(b"step ", tally.step);
@@ -81,18 +88,16 @@ fn line(name: &[u8], n: u32) {
     io::write_all(STDOUT_FILENO, b"\n");
 }
 
-// The large pool has one word more than may be lent, so that SIZE is tried. The arrays are lent from
-// parameters: of one made here, the checker would count the words one by one.
+// The arrays are lent from parameters: of one made here, the checker would count the words one by one.
 fn tallied_in(
-    mut small: [u32; 64],
-    mut large: [u32; 1_048_577],
-    mut entries: [u64; 32],
-    mut table: [u32; 4104],
+    mut small: [u32; MOST_GIVEN],
+    mut large: [u32; LARGE_WORDS],
+    mut table: [u32; TABLE_WORDS],
 ) -> Tally {
-    tallied(&mut small, &mut large, &mut entries, &mut table)
+    tallied(&mut small, &mut large, &mut table)
 }
 
-fn tallied(small: &mut [u32], large: &mut [u32], entries: &mut [u64], table: &mut [u32]) -> Tally {
+fn tallied(small: &mut [u32], large: &mut [u32], table: &mut [u32]) -> Tally {
     let mut tally = Tally {
         over: false,
         records: 0,
@@ -108,7 +113,7 @@ fn tallied(small: &mut [u32], large: &mut [u32], entries: &mut [u64], table: &mu
         difference: same(),
     };
     for _ in 0..MOST_RECORDS {
-        tally = next_record(tally, small, large, entries, table);
+        tally = next_record(tally, small, large, table);
         if tally.over {
             break;
         }
@@ -116,32 +121,27 @@ fn tallied(small: &mut [u32], large: &mut [u32], entries: &mut [u64], table: &mu
     tally
 }
 
-fn next_record(
-    tally: Tally,
-    small: &mut [u32],
-    large: &mut [u32],
-    entries: &mut [u64],
-    table: &mut [u32],
-) -> Tally {
+fn next_record(tally: Tally, small: &mut [u32], large: &mut [u32], table: &mut [u32]) -> Tally {
     let kind = next_word();
-    let verdict = verdict_on(kind, small, large, entries, table);
+    let verdict = verdict_on(kind, small, large, table);
     judged(counted(tally, kind), verdict)
 }
 
-fn verdict_on(
-    kind: u32,
-    small: &mut [u32],
-    large: &mut [u32],
-    entries: &mut [u64],
-    table: &mut [u32],
-) -> Verdict {
+fn verdict_on(kind: u32, small: &mut [u32], large: &mut [u32], table: &mut [u32]) -> Verdict {
     match kind {
-        0 => alone(same()),
-        1 => alone(opening::open(table)),
-        2 => run::run(small, entries, table, large),
-        3 => alone(single::single(small, large, entries, table)),
-        4 => alone(single::put()),
-        _ => alone(unknown(kind)),
+        2 => run::run(small, table, large),
+        3 => alone(single::single(small, large, table)),
+        _ => alone(unlent(kind, table)),
+    }
+}
+
+// What differs in a record that lends no memory, but for the table of an opening.
+fn unlent(kind: u32, table: &mut [u32]) -> Difference {
+    match kind {
+        0 => same(),
+        1 => opening::open(table),
+        4 => single::put(),
+        _ => unknown(kind),
     }
 }
 

@@ -1,24 +1,25 @@
 // What is done with a channel, held to the model's answer: that comes next on standard input.
 use crate::answer::next_answer;
 use crate::answer::refused;
-use crate::answer::told_put;
-use crate::answer::told_step;
 use crate::difference::Difference;
 use crate::difference::answers;
+use crate::difference::far;
 use crate::difference::first;
 use crate::difference::same;
 use crate::difference::unknown;
 use crate::input::next_word;
-use crate::model::Model;
-use crate::model::channel_held;
-use crate::model::next_changes;
-use crate::model::next_deltas;
-use crate::model::with_semaphore;
+use crate::outcome::Outcome;
+use crate::outcome::put_set;
+use crate::outcome::stepped;
+use crate::pair::Pair;
+use crate::pair::channel_held;
+use crate::pair::next_deltas;
+use crate::pair::with_channel;
+use crate::pair::with_semaphore;
 use crate::pool::Lent;
+use crate::pool::MOST_ENTRIES;
+use crate::pool::MOST_GIVEN;
 use crate::pool::put;
-use crate::pool::within;
-use channel::Channel;
-use channel::Stepped;
 
 // The operations' numbers.
 pub const PUT: u32 = 1;
@@ -27,79 +28,66 @@ pub const STORE: u32 = 2;
 
 pub const STEP: u32 = 3;
 
-// The channel and the model's after an operation, whether it was a step, and where they part.
+// The channel after an operation, whether it was a step, and where library and model part.
 pub struct Done {
-    pub channel: Channel,
-    pub model: Model,
+    pub pair: Pair,
     pub steps: u32,
     pub difference: Difference,
 }
 
 // The next operation of a run.
 pub(crate) fn next_operation(
-    channel: Channel,
-    model: Model,
+    pair: Pair,
     words: &[u32],
-    entries: &[u64],
+    entries: [u64; MOST_ENTRIES],
     table: &[u32],
     semaphores: &mut [u32],
 ) -> Done {
     let header = next_word();
     let number = header % 0x100;
     if number == PUT {
-        return set(channel, model, next_word(), header);
+        return set(pair, next_word(), header);
     }
     if number == STORE {
-        return stored(channel, model, semaphores);
+        return stored(pair, semaphores);
     }
     if number == STEP {
         let lent = next_lent();
-        return step(
-            channel,
-            model,
-            header,
-            lent,
-            words,
-            entries,
-            table,
-            semaphores,
-        );
+        return step(pair, header, lent, words, entries, table, semaphores);
     }
     Done {
-        channel,
-        model,
+        pair,
         steps: 0,
         difference: unknown(number),
     }
 }
 
 // Put is set.
-pub(crate) fn set(channel: Channel, model: Model, put: u32, header: u32) -> Done {
-    let set = channel.set_put(put);
-    let answer = set.answer;
-    let channel = set.channel;
-    let right = refused(next_word());
-    let model = next_deltas(model, header / 0x100 % 0x100);
+pub(crate) fn set(pair: Pair, put: u32, header: u32) -> Done {
+    let channel = pair.got;
+    let outcome = put_set(channel, put);
+    held(pair, outcome, refused(next_word()), header, 0)
+}
+
+// What came of an operation, held to the model's answer, and to its channel after the words that follow.
+fn held(pair: Pair, outcome: Outcome, right: [u32; 6], header: u32, steps: u32) -> Done {
+    let answer = outcome.answer;
+    let channel = outcome.channel;
+    let pair = next_deltas(with_channel(pair, channel), header / 0x100 % 0x100);
     Done {
-        channel,
-        model,
-        steps: 0,
-        difference: held(right, told_put(answer), model, channel),
+        pair,
+        steps,
+        difference: first(answers(right, answer), channel_held(pair)),
     }
 }
 
-fn held(right: [u32; 6], answer: [u32; 6], model: Model, channel: Channel) -> Difference {
-    first(answers(right, answer), channel_held(model, channel))
-}
-
 // The host stores a semaphore word.
-fn stored(channel: Channel, model: Model, semaphores: &mut [u32]) -> Done {
+fn stored(pair: Pair, semaphores: &mut [u32]) -> Done {
     let place = next_word() as usize;
     let word = next_word();
     put(semaphores, place, word);
     Done {
-        channel,
-        model: with_semaphore(model, place, word),
+        pair: with_semaphore(pair, place, word),
         steps: 0,
         difference: same(),
     }
@@ -117,52 +105,47 @@ fn next_lent() -> Lent {
 }
 
 pub(crate) fn step(
-    channel: Channel,
-    model: Model,
+    pair: Pair,
     header: u32,
     lent: Lent,
     words: &[u32],
-    entries: &[u64],
+    entries: [u64; MOST_ENTRIES],
     table: &[u32],
     semaphores: &mut [u32],
 ) -> Done {
-    let stepped = step_in(channel, lent, words, entries, table, semaphores);
-    step_held(stepped, model, header, semaphores)
+    let channel = pair.got;
+    let outcome = stepped(channel, lent, words, &entries, table, semaphores);
+    let done = held(pair, outcome, next_answer(), header, 1);
+    next_changes(done, semaphores, header / 0x1_0000)
 }
 
-fn step_in(
-    channel: Channel,
-    lent: Lent,
-    words: &[u32],
-    entries: &[u64],
-    table: &[u32],
-    semaphores: &mut [u32],
-) -> Stepped {
-    let w = within(lent.words, words.len());
-    let e = within(lent.entries, entries.len());
-    let t = within(lent.table, table.len());
-    let s = within(lent.semaphores, semaphores.len());
-    channel.step(
-        &words[..w],
-        &entries[..e],
-        &table[..t],
-        &mut semaphores[..s],
-    )
+// The semaphore words that are others now.
+fn next_changes(done: Done, semaphores: &mut [u32], count: u32) -> Done {
+    let mut done = done;
+    for _ in 0..count {
+        done = next_change(done, semaphores);
+    }
+    done
 }
 
-fn step_held(stepped: Stepped, model: Model, header: u32, semaphores: &mut [u32]) -> Done {
-    let answer = stepped.answer;
-    let channel = stepped.channel;
-    let right = next_answer();
-    let model = next_deltas(model, header / 0x100 % 0x100);
-    let state = held(right, told_step(answer), model, channel);
-    let changed = next_changes(model, semaphores, header / 0x1_0000);
-    let model = changed.model;
-    let far = changed.difference;
+// One of the first is the model's, and compared later; one past them here.
+fn next_change(done: Done, semaphores: &mut [u32]) -> Done {
+    let pair = done.pair;
+    let difference = done.difference;
+    let steps = done.steps;
+    let place = next_word() as usize;
+    let word = next_word();
+    if place < MOST_GIVEN {
+        return Done {
+            pair: with_semaphore(pair, place, word),
+            steps,
+            difference,
+        };
+    }
+    let here = far(semaphores, place, word);
     Done {
-        channel,
-        model,
-        steps: 1,
-        difference: first(state, far),
+        pair,
+        steps,
+        difference: first(difference, here),
     }
 }

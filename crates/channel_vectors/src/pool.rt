@@ -8,12 +8,13 @@ use crate::input::next_word;
 // The most words of a pool that a record gives.
 pub const MOST_GIVEN: usize = 64;
 
-const MOST_ENTRIES: usize = 32;
+// The most IB entries that it gives.
+pub const MOST_ENTRIES: usize = 32;
 
 // The table pool's own word `i` is this and `i`.
 const TABLE_WORD: u32 = 0x8000_0000;
 
-const TABLE_WORDS: u32 = 4104;
+pub const TABLE_WORDS: usize = 4104;
 
 // How much of each pool is lent to a step.
 pub struct Lent {
@@ -21,6 +22,12 @@ pub struct Lent {
     pub entries: usize,
     pub table: usize,
     pub semaphores: usize,
+}
+
+// What a record gives: how many words of the table, and its entries.
+pub struct Given {
+    pub table: usize,
+    pub entries: [u64; MOST_ENTRIES],
 }
 
 // What is lent of a pool of so many words.
@@ -41,61 +48,53 @@ pub(crate) fn put(words: &mut [u32], i: usize, word: u32) {
     }
 }
 
-fn put_entry(entries: &mut [u64], i: usize, entry: u64) {
-    if i < entries.len() {
-        entries[i] = entry;
-    }
-}
-
-// Reads what a record gives of each pool, and how many words of the table that is.
-pub(crate) fn load_pools(
-    words: &mut [u32],
-    entries: &mut [u64],
-    table: &mut [u32],
-    semaphores: &mut [u32],
-) -> usize {
+// Reads what a record gives: the pools are filled, the entries handed on.
+pub(crate) fn load_pools(words: &mut [u32], table: &mut [u32], semaphores: &mut [u32]) -> Given {
     let count = load_table(table);
     load(words);
-    load_entries(entries);
+    let entries = next_entries();
     load(semaphores);
-    count
-}
-
-// What an earlier record gave is the pool's own again, and then come the words of this one.
-fn load(pool: &mut [u32]) {
-    clear(pool);
-    load_over(pool);
-}
-
-fn clear(pool: &mut [u32]) {
-    for i in 0..MOST_GIVEN {
-        put(pool, i, 0);
+    Given {
+        table: count,
+        entries,
     }
+}
+
+// The words of the pushbuffer, or the semaphore words.
+fn load(pool: &mut [u32]) {
+    load_words(pool, MOST_GIVEN, false);
 }
 
 pub(crate) fn load_table(table: &mut [u32]) -> usize {
-    fresh(table);
-    load_over(table)
+    load_words(table, TABLE_WORDS, true)
 }
 
-fn fresh(table: &mut [u32]) {
-    for i in 0..TABLE_WORDS {
-        put(table, i as usize, TABLE_WORD + i);
+// Reads the words that the record gives, and says how many these are. Behind them, where an earlier record
+// may have given some, the pool has its own again.
+fn load_words(pool: &mut [u32], end: usize, table: bool) -> usize {
+    let given = next_up_to(MOST_GIVEN);
+    for i in 0..end {
+        put(pool, i, given_or_own(i, given, table));
     }
+    given
 }
 
-fn load_over(pool: &mut [u32]) -> usize {
-    let count = next_up_to(MOST_GIVEN);
-    for i in 0..count {
-        put(pool, i, next_word());
+fn given_or_own(i: usize, given: usize, table: bool) -> u32 {
+    if i < given {
+        return next_word();
     }
-    count
+    if table {
+        return TABLE_WORD | (i % TABLE_WORDS) as u32;
+    }
+    0
 }
 
-// No more entries are lent than a record gives, so the others need not be cleared.
-fn load_entries(pool: &mut [u64]) {
-    let count = next_up_to(MOST_ENTRIES);
-    for i in 0..count {
-        put_entry(pool, i, next_pair());
+// No record lends more entries than it gives.
+fn next_entries() -> [u64; MOST_ENTRIES] {
+    let mut entries = [0u64; MOST_ENTRIES];
+    let given = next_up_to(MOST_ENTRIES);
+    for i in 0..given {
+        entries[i] = next_pair();
     }
+    entries
 }

@@ -5,25 +5,26 @@ use crate::difference::first;
 use crate::difference::same;
 use crate::difference::unknown;
 use crate::input::next_word;
-use crate::model::Model;
-use crate::model::memory_held;
-use crate::model::modelled;
+use crate::layout::CHANNEL_WORDS;
 use crate::operation::PUT;
 use crate::operation::STEP;
 use crate::operation::set;
 use crate::operation::step;
+use crate::pair::Pair;
+use crate::pair::memory_held;
+use crate::pair::paired;
 use crate::pool::Lent;
+use crate::pool::MOST_ENTRIES;
 use crate::pool::MOST_GIVEN;
 use crate::pool::load_pools;
 use crate::pool::within;
-use crate::state::channel_of;
 use crate::state::next_channel;
 
 pub(crate) fn put() -> Difference {
     let given = next_channel();
     let put = next_word();
     let header = next_word();
-    let done = set(channel_of(given), modelled(given, &[0]), put, header);
+    let done = set(paired(given, &[0]), put, header);
     let difference = done.difference;
     first(of(header, PUT), difference)
 }
@@ -40,12 +41,7 @@ fn of(header: u32, operation: u32) -> Difference {
 // One step. The stack, of 8 MB, has room for one pool of 1,048,577 words and not for two. So the longer
 // of words and semaphores is lent from the large pool, and the other from the small one: no record
 // lends more than that has of both.
-pub(crate) fn single(
-    small: &mut [u32],
-    large: &mut [u32],
-    entries: &mut [u64],
-    table: &mut [u32],
-) -> Difference {
+pub(crate) fn single(small: &mut [u32], large: &mut [u32], table: &mut [u32]) -> Difference {
     let given = next_channel();
     let lent = Lent {
         words: next_word() as usize,
@@ -54,51 +50,43 @@ pub(crate) fn single(
         semaphores: next_word() as usize,
     };
     if lent.semaphores < lent.words {
-        return single_in(given, lent, large, entries, table, small);
+        return single_in(given, lent, large, table, small);
     }
-    single_in(given, lent, small, entries, table, large)
+    single_in(given, lent, small, table, large)
 }
 
 fn single_in(
-    given: [u32; 41],
+    given: [u32; CHANNEL_WORDS],
     lent: Lent,
     words: &mut [u32],
-    entries: &mut [u64],
     table: &mut [u32],
     semaphores: &mut [u32],
 ) -> Difference {
-    load_pools(words, entries, table, semaphores);
+    let loaded = load_pools(words, table, semaphores);
+    let entries = loaded.entries;
     single_step(given, lent, words, entries, table, semaphores)
 }
 
 fn single_step(
-    given: [u32; 41],
+    given: [u32; CHANNEL_WORDS],
     lent: Lent,
     words: &[u32],
-    entries: &[u64],
+    entries: [u64; MOST_ENTRIES],
     table: &[u32],
     semaphores: &mut [u32],
 ) -> Difference {
-    let model = modelled(given, semaphores);
-    let channel = channel_of(given);
+    let pair = paired(given, semaphores);
     let header = next_word();
-    let done = step(
-        channel,
-        model,
-        header,
-        lent,
-        words,
-        entries,
-        table,
-        semaphores,
-    );
-    let memory = all_held(done.model, semaphores, lent.semaphores);
-    first(of(header, STEP), first(done.difference, memory))
+    let done = step(pair, header, lent, words, entries, table, semaphores);
+    let pair = done.pair;
+    let difference = done.difference;
+    let memory = all_held(pair, semaphores, lent.semaphores);
+    first(of(header, STEP), first(difference, memory))
 }
 
 // Holds all semaphore words that were lent to the model's: past the first, those are 0.
-fn all_held(model: Model, semaphores: &mut [u32], lent: usize) -> Difference {
-    let near = memory_held(model, semaphores);
+fn all_held(pair: Pair, semaphores: &mut [u32], lent: usize) -> Difference {
+    let near = memory_held(pair, semaphores);
     first(near, swept(semaphores, lent))
 }
 

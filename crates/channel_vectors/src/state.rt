@@ -1,6 +1,8 @@
-// A channel and its 41 words, in the records' order.
+// A channel and its words, each at its place.
 use crate::input::next_word;
 use crate::input::pair_of;
+use crate::layout;
+use crate::layout::CHANNEL_WORDS;
 use channel::Channel;
 use puller::Acquire;
 use puller::Puller;
@@ -18,16 +20,16 @@ use word::Level;
 use word::Mode;
 use word::Setting;
 
-// The next 41 words: a channel's.
-pub(crate) fn next_channel() -> [u32; 41] {
-    let mut words = [0u32; 41];
-    for i in 0..41 {
+// The next words: a channel's.
+pub(crate) fn next_channel() -> [u32; CHANNEL_WORDS] {
+    let mut words = [0u32; CHANNEL_WORDS];
+    for i in 0..CHANNEL_WORDS {
         words[i] = next_word();
     }
     words
 }
 
-pub(crate) fn channel_of(q: [u32; 41]) -> Channel {
+pub(crate) fn channel_of(q: [u32; CHANNEL_WORDS]) -> Channel {
     let setup = setup_of(q);
     let pusher = pusher_of(q);
     let puller = puller_of(q);
@@ -38,42 +40,66 @@ pub(crate) fn channel_of(q: [u32; 41]) -> Channel {
     }
 }
 
-fn setup_of(q: [u32; 41]) -> Setup {
+// The other way: each part puts its words in their places.
+pub(crate) fn words_of(channel: Channel) -> [u32; CHANNEL_WORDS] {
+    let setup = channel.setup;
+    let pusher = channel.pusher;
+    let puller = channel.puller;
+    let words = with_setup([0u32; CHANNEL_WORDS], setup);
+    let words = with_pusher(words, pusher);
+    with_puller(words, puller)
+}
+
+fn setup_of(q: [u32; CHANNEL_WORDS]) -> Setup {
     let setting = Setting {
-        level: Level { number: q[0] },
-        mode: Mode { number: q[1] },
-        sli: flag(q[2]),
+        level: Level {
+            number: q[layout::LEVEL],
+        },
+        mode: Mode {
+            number: q[layout::MODE],
+        },
+        sli: flag(q[layout::SLI]),
     };
     Setup {
         setting,
-        order: q[3],
-        limit: q[4],
+        order: q[layout::IB_ORDER],
+        limit: q[layout::DMA_LIMIT],
     }
 }
 
-fn pusher_of(q: [u32; 41]) -> Pusher {
+fn with_setup(words: [u32; CHANNEL_WORDS], setup: Setup) -> [u32; CHANNEL_WORDS] {
+    let mut words = words;
+    words[layout::LEVEL] = setup.setting.level.number;
+    words[layout::MODE] = setup.setting.mode.number;
+    words[layout::SLI] = number(setup.setting.sli);
+    words[layout::IB_ORDER] = setup.order;
+    words[layout::DMA_LIMIT] = setup.limit;
+    words
+}
+
+fn pusher_of(q: [u32; CHANNEL_WORDS]) -> Pusher {
     let run = run_of(q);
     let subroutine = Subroutine {
-        active: flag(q[14]),
-        back: q[15],
+        active: flag(q[layout::SUBROUTINE]),
+        back: q[layout::RETURN_ADDRESS],
     };
     let ib = Ib {
-        get: q[16],
-        put: q[17],
+        get: q[layout::IB_GET],
+        put: q[layout::IB_PUT],
     };
     let main = Main {
-        nonmain: flag(q[18]),
-        mget: pair_of(q[19], q[20]),
-        valid: flag(q[21]),
+        nonmain: flag(q[layout::NOT_MAIN]),
+        mget: pair_of(q[layout::DMA_MGET], q[layout::DMA_MGET_HIGH]),
+        valid: flag(q[layout::DMA_MGET_VALID]),
     };
     let sli = Sli {
-        mask: q[22],
-        active: flag(q[23]),
+        mask: q[layout::SLI_MASK],
+        active: flag(q[layout::SLI_ACTIVE]),
     };
-    let error = pusher_error(q[24]);
+    let error = pusher_error(q[layout::PUSHER_ERROR]);
     Pusher {
-        get: pair_of(q[5], q[6]),
-        put: pair_of(q[7], q[8]),
+        get: pair_of(q[layout::GET], q[layout::GET_HIGH]),
+        put: pair_of(q[layout::PUT], q[layout::PUT_HIGH]),
         run,
         subroutine,
         ib,
@@ -83,40 +109,94 @@ fn pusher_of(q: [u32; 41]) -> Pusher {
     }
 }
 
-fn run_of(q: [u32; 41]) -> Run {
+fn run_of(q: [u32; CHANNEL_WORDS]) -> Run {
     Run {
-        count: q[9],
-        method: (q[10] % 0x1_0000) as u16,
-        subchannel: q[11],
-        increasing: flag(q[12]),
-        awaited: flag(q[13]),
+        count: q[layout::COUNT],
+        method: (q[layout::METHOD] % 0x1_0000) as u16,
+        subchannel: q[layout::SUBCHANNEL],
+        increasing: flag(q[layout::INCREASING]),
+        awaited: flag(q[layout::COUNT_AWAITED]),
     }
 }
 
-fn puller_of(q: [u32; 41]) -> Puller {
-    let engines = [q[25], q[26], q[27], q[28], q[29], q[30], q[31], q[32]];
+fn with_pusher(words: [u32; CHANNEL_WORDS], pusher: Pusher) -> [u32; CHANNEL_WORDS] {
+    let mut words = words;
+    let error = pusher.error;
+    words[layout::GET] = low(pusher.get);
+    words[layout::GET_HIGH] = high(pusher.get);
+    words[layout::PUT] = low(pusher.put);
+    words[layout::PUT_HIGH] = high(pusher.put);
+    words[layout::COUNT] = pusher.run.count;
+    words[layout::METHOD] = wide(pusher.run.method);
+    words[layout::SUBCHANNEL] = pusher.run.subchannel;
+    words[layout::INCREASING] = number(pusher.run.increasing);
+    words[layout::COUNT_AWAITED] = number(pusher.run.awaited);
+    words[layout::SUBROUTINE] = number(pusher.subroutine.active);
+    words[layout::RETURN_ADDRESS] = pusher.subroutine.back;
+    words[layout::IB_GET] = pusher.ib.get;
+    words[layout::IB_PUT] = pusher.ib.put;
+    words[layout::NOT_MAIN] = number(pusher.main.nonmain);
+    words[layout::DMA_MGET] = low(pusher.main.mget);
+    words[layout::DMA_MGET_HIGH] = high(pusher.main.mget);
+    words[layout::DMA_MGET_VALID] = number(pusher.main.valid);
+    words[layout::SLI_MASK] = pusher.sli.mask;
+    words[layout::SLI_ACTIVE] = number(pusher.sli.active);
+    words[layout::PUSHER_ERROR] = error.number();
+    words
+}
+
+fn puller_of(q: [u32; CHANNEL_WORDS]) -> Puller {
+    let engines = [
+        q[layout::ENGINE_0],
+        q[layout::ENGINE_1],
+        q[layout::ENGINE_2],
+        q[layout::ENGINE_3],
+        q[layout::ENGINE_4],
+        q[layout::ENGINE_5],
+        q[layout::ENGINE_6],
+        q[layout::ENGINE_7],
+    ];
     let semaphore = Semaphore {
-        dma: q[35],
-        offset: q[36],
-        valid: flag(q[37]),
+        dma: q[layout::DMA_SEMAPHORE],
+        offset: q[layout::SEMAPHORE_OFFSET],
+        valid: flag(q[layout::OFFSET_VALID]),
     };
     let acquire = Acquire {
-        active: flag(q[38]),
-        value: q[39],
+        active: flag(q[layout::ACQUIRE_ACTIVE]),
+        value: q[layout::ACQUIRE_VALUE],
     };
-    let error = puller_error(q[40]);
+    let error = puller_error(q[layout::PULLER_ERROR]);
     Puller {
         engines,
-        last: q[33],
-        reference: q[34],
+        last: q[layout::LAST_ENGINE],
+        reference: q[layout::REF],
         semaphore,
         acquire,
         error,
     }
 }
 
-fn flag(word: u32) -> bool {
-    word != 0
+fn with_puller(words: [u32; CHANNEL_WORDS], puller: Puller) -> [u32; CHANNEL_WORDS] {
+    let mut words = words;
+    let engines = puller.engines;
+    let error = puller.error;
+    words[layout::ENGINE_0] = engines[0];
+    words[layout::ENGINE_1] = engines[1];
+    words[layout::ENGINE_2] = engines[2];
+    words[layout::ENGINE_3] = engines[3];
+    words[layout::ENGINE_4] = engines[4];
+    words[layout::ENGINE_5] = engines[5];
+    words[layout::ENGINE_6] = engines[6];
+    words[layout::ENGINE_7] = engines[7];
+    words[layout::LAST_ENGINE] = puller.last;
+    words[layout::REF] = puller.reference;
+    words[layout::DMA_SEMAPHORE] = puller.semaphore.dma;
+    words[layout::SEMAPHORE_OFFSET] = puller.semaphore.offset;
+    words[layout::OFFSET_VALID] = number(puller.semaphore.valid);
+    words[layout::ACQUIRE_ACTIVE] = number(puller.acquire.active);
+    words[layout::ACQUIRE_VALUE] = puller.acquire.value;
+    words[layout::PULLER_ERROR] = error.number();
+    words
 }
 
 fn pusher_error(number: u32) -> PusherError {
@@ -143,56 +223,8 @@ fn puller_error(number: u32) -> PullerError {
     }
 }
 
-pub(crate) fn words_of(channel: Channel) -> [u32; 41] {
-    let setup = channel.setup;
-    let pusher = channel.pusher;
-    let pusher_stopped = pusher.error;
-    let puller = channel.puller;
-    let puller_stopped = puller.error;
-    let engines = puller.engines;
-    [
-        setup.setting.level.number,
-        setup.setting.mode.number,
-        number(setup.setting.sli),
-        setup.order,
-        setup.limit,
-        low(pusher.get),
-        high(pusher.get),
-        low(pusher.put),
-        high(pusher.put),
-        pusher.run.count,
-        wide(pusher.run.method),
-        pusher.run.subchannel,
-        number(pusher.run.increasing),
-        number(pusher.run.awaited),
-        number(pusher.subroutine.active),
-        pusher.subroutine.back,
-        pusher.ib.get,
-        pusher.ib.put,
-        number(pusher.main.nonmain),
-        low(pusher.main.mget),
-        high(pusher.main.mget),
-        number(pusher.main.valid),
-        pusher.sli.mask,
-        number(pusher.sli.active),
-        pusher_stopped.number(),
-        engines[0],
-        engines[1],
-        engines[2],
-        engines[3],
-        engines[4],
-        engines[5],
-        engines[6],
-        engines[7],
-        puller.last,
-        puller.reference,
-        puller.semaphore.dma,
-        puller.semaphore.offset,
-        number(puller.semaphore.valid),
-        number(puller.acquire.active),
-        puller.acquire.value,
-        puller_stopped.number(),
-    ]
+fn flag(word: u32) -> bool {
+    word != 0
 }
 
 fn number(flag: bool) -> u32 {

@@ -1,20 +1,23 @@
 // The judgement of a submission.
 ghost use mathlib.Core.Path.{_≡_};
-ghost use Prim.Native.Nat.{_*_, _≤_, _<_};
-ghost use lib.ListN.{length};
+ghost use Prim.Native.Nat.{ℕ, _^_, _≤_, _<_};
+ghost use lib.ListN.{length, getD};
+ghost use Rattle.word.specs.Lent.{wordsOf};
 ghost use Rattle.word.specs.Lowest.{lowest};
-ghost use Rattle.rules.specs.Map.{tooWide};
-ghost use Rattle.rules.specs.Reason.{findingOf, submission};
-ghost use Rattle.rules.specs.Judging.{lengthRefused, placeVerdict, startVerdict, pairVerdict, atMark, refusedPair, verdictOf, refusing};
-ghost use Rattle.rules.specs.Contracts.{Judges};
+ghost use Rattle.rules.specs.Map.{overThree};
+ghost use Rattle.rules.specs.Reason.{submission};
+ghost use Rattle.rules.specs.Judging.{lengthRefused, placeVerdict, startVerdict, verdictOf, refusing};
+ghost use Rattle.rules.specs.Contracts.{FirstRefuses, Judges};
 use crate::map::all_bits;
 use crate::map::is_marked;
 use crate::map::next_start;
 use crate::permit::LIST_BYTES;
 use crate::permit::set_bits;
-use crate::reason::reason_at;
+use crate::reason::at_mark;
 use rules::Finding;
+use rules::FirstRefused;
 use rules::Judgement;
+use rules::Pair;
 use rules::Reason;
 use rules::Verdict;
 use word::Check;
@@ -74,7 +77,7 @@ fn no_such_lengths(words: usize, map: usize, permit: usize) -> bool
 
 // The verdict on a submission of sound sizes: the map's bytes first, then the start, then the pairs.
 fn whole_verdict(setting: Setting, words: &[u8], map: &[u8], permit: &[u8]) -> Verdict
-    requires { ⌜ (length (now words) ≡ 4 * length (now map)) × (length (now permit) ≡ 2048) × (length (now map) ≤ 1048576) ⌝ }
+    requires { ⌜ (length (wordsOf (now words)) ≡ length (now map)) × (length (now map) < 2 ^ 32) ⌝ }
     ensures { λ r. ⌜ r ≡ verdictOf (submission setting (now (words .entry)) (now (permit .entry))) (now (map .entry)) ⌝ }
 {
     let bytes = bytes_verdict(map);
@@ -85,14 +88,21 @@ fn whole_verdict(setting: Setting, words: &[u8], map: &[u8], permit: &[u8]) -> V
     let Verdict::Accepted = start else {
         return start;
     };
-    pairs_verdict(setting, words, map, permit)
+    let first = first_refused(setting, words, map, permit);
+    let FirstRefused::At { reason, pair } = first else {
+        return Verdict::Accepted;
+    };
+    Verdict::Rejected {
+        reason,
+        place: pair.place as u32,
+    }
 }
 
 // Reason 1, at the lowest place whose byte is over 3. Few maps have one, so that it is looked for only
 // where all bytes together have a bit above 3.
 fn bytes_verdict(map: &[u8]) -> Verdict
-    requires { ⌜ length (now map) ≤ 1048576 ⌝ }
-    ensures { λ r. ⌜ r ≡ placeVerdict (lowest (tooWide (now (map .entry))) (length (now (map .entry)))) ⌝ }
+    requires { ⌜ length (now map) < 2 ^ 32 ⌝ }
+    ensures { λ r. ⌜ r ≡ placeVerdict (lowest (overThree (now (map .entry))) (length (now (map .entry)))) ⌝ }
 {
     if all_bits(map) < 4 {
         return Verdict::Accepted;
@@ -101,8 +111,8 @@ fn bytes_verdict(map: &[u8]) -> Verdict
 }
 
 fn first_wide(map: &[u8]) -> Verdict
-    requires { ⌜ length (now map) ≤ 1048576 ⌝ }
-    ensures { λ r. ⌜ r ≡ placeVerdict (lowest (tooWide (now (map .entry))) (length (now (map .entry)))) ⌝ }
+    requires { ⌜ length (now map) < 2 ^ 32 ⌝ }
+    ensures { λ r. ⌜ r ≡ placeVerdict (lowest (overThree (now (map .entry))) (length (now (map .entry)))) ⌝ }
 {
     for place in 0..map.len() {
         if 3 < map[place] {
@@ -131,45 +141,39 @@ fn start_verdict(map: &[u8]) -> Verdict
     }
 }
 
-// The other reasons: places rising, main before subroutine. A pair's number is twice its place, plus one
-// inside a subroutine.
-fn pairs_verdict(setting: Setting, words: &[u8], map: &[u8], permit: &[u8]) -> Verdict
-    requires { ⌜ (length (now words) ≡ 4 * length (now map)) × (length (now permit) ≡ 2048) × (length (now map) ≤ 1048576) ⌝ }
-    ensures { λ r. ⌜ r ≡ pairVerdict (submission setting (now (words .entry)) (now (permit .entry))) (now (map .entry)) (lowest (refusedPair (submission setting (now (words .entry)) (now (permit .entry))) (now (map .entry))) (2 * length (now (map .entry)))) ⌝ }
+// The first pair that is refused: places rising, main before subroutine. A pair's number is twice its
+// place, plus one inside a subroutine.
+pub fn first_refused(setting: Setting, words: &[u8], map: &[u8], permit: &[u8]) -> FirstRefused
+    ensures { λ r. ⌜ FirstRefuses setting (now (words .entry)) (now (map .entry)) (now (permit .entry)) r ⌝ }
 {
-    let mut pair = 0;
-    while pair < 2 * map.len() {
-        let place = pair / 2;
+    let end = end_of_marks(words, map);
+    let mut number = 0;
+    while number < 2 * end {
+        let place = number / 2;
         if map[place] == 0 {
-            pair = 2 * next_start(map, place + 1);
+            number = 2 * next_start(map, place + 1, end);
             continue;
         }
-        let found = at_mark(setting, words, map, permit, place, pair % 2 == 1);
+        let inside = number % 2 == 1;
+        let found = at_mark(setting, words, map, permit, place, inside);
         if let Finding::Against { reason } = found {
-            return Verdict::Rejected {
+            return FirstRefused::At {
                 reason,
-                place: place as u32,
+                pair: Pair { place, inside },
             };
         }
-        pair = pair + 1;
+        number = number + 1;
     }
-    Verdict::Accepted
+    FirstRefused::Nothing
 }
 
-// What is found at a pair, if the map marks it.
-fn at_mark(
-    setting: Setting,
-    words: &[u8],
-    map: &[u8],
-    permit: &[u8],
-    place: usize,
-    inside: bool,
-) -> Finding
-    requires { ⌜ (length (now words) ≡ 4 * length (now map)) × (length (now permit) ≡ 2048) × (place < length (now map)) ⌝ }
-    ensures { λ r. ⌜ r ≡ findingOf (atMark (submission setting (now (words .entry)) (now (permit .entry))) (now (map .entry)) place inside) ⌝ }
+// The place from which on there is no word, or no mark.
+fn end_of_marks(words: &[u8], map: &[u8]) -> usize
+    ensures { λ r. ⌜ (r ≤ length (wordsOf (now (words .entry)))) × (r ≤ length (now (map .entry))) × ((p : ℕ) → r ≤ p → p < length (wordsOf (now (words .entry))) → getD (now (map .entry)) p 0 ≡ 0) ⌝ }
 {
-    if is_marked(map, place, inside) {
-        return reason_at(setting, words, map, permit, place, inside);
+    let count = words.len() / 4;
+    if map.len() < count {
+        return map.len();
     }
-    Finding::Nothing
+    count
 }

@@ -1,42 +1,62 @@
 // The parameters of a command: how many there are, and which methods they go to.
 ghost use mathlib.Core.Path.{_≡_};
 ghost use mathlib.Core.Bool.{true, false};
-ghost use Prim.Native.Nat.{ℕ, _<_};
-ghost use lib.ListN.{length};
-ghost use Rattle.rules.specs.Parameters.{parametersOf, methodFor, Fit, lacking, denied};
+ghost use Prim.Native.Nat.{ℕ};
+ghost use Rattle.word.specs.Reading.{parameterCount};
+ghost use Rattle.word.specs.Special.{presentOf};
+ghost use Rattle.rules.specs.Permit.{permits};
+ghost use Rattle.rules.specs.Parameters.{methodsOf, methodFor, anyFails};
 use crate::permit::permitted;
-use rules::Parameters;
-use word::Level;
+use rules::Methods;
 use word::Reading;
+use word::Setting;
 use word::present;
 
-// The parameters that follow a command: only a run has any.
-pub(crate) fn parameters_of(command: Reading) -> Parameters
-    ensures { λ r. ⌜ r ≡ parametersOf command ⌝ }
+// How many parameters follow a command: only a run has any.
+pub(crate) fn parameter_count(command: Reading) -> u32
+    ensures { λ r. ⌜ r ≡ parameterCount command ⌝ }
+{
+    match command {
+        Reading::Increasing { count, .. } => count,
+        Reading::NonIncreasing { count, .. } => count,
+        Reading::Long { count, .. } => count,
+        _ => 0,
+    }
+}
+
+// The methods that they go to.
+pub(crate) fn methods_of(command: Reading) -> Methods
+    ensures { λ r. ⌜ r ≡ methodsOf command ⌝ }
 {
     match command {
         Reading::Increasing {
-            count,
             subchannel,
             method,
-        } => Parameters {
-            count,
+            ..
+        } => Methods {
             subchannel,
             method: method / 4,
             increasing: true,
         },
         Reading::NonIncreasing {
-            count,
             subchannel,
             method,
-        } => Parameters {
-            count,
+            ..
+        } => Methods {
             subchannel,
             method: method / 4,
             increasing: false,
         },
-        _ => Parameters {
-            count: 0,
+        Reading::Long {
+            subchannel,
+            method,
+            ..
+        } => Methods {
+            subchannel,
+            method: method / 4,
+            increasing: false,
+        },
+        _ => Methods {
             subchannel: 0,
             method: 0,
             increasing: false,
@@ -45,38 +65,35 @@ pub(crate) fn parameters_of(command: Reading) -> Parameters
 }
 
 // The number of the method that parameter k, from 0, goes to.
-fn method_for(parameters: Parameters, k: u32) -> u32
-    requires { ⌜ (parameters .method < 2048) × (k < 2048) ⌝ }
-    ensures { λ r. ⌜ r ≡ methodFor parameters k ⌝ }
+fn method_for(methods: Methods, k: u32) -> u32
+    ensures { λ r. ⌜ r ≡ methodFor methods k ⌝ }
 {
-    if parameters.increasing {
-        return (parameters.method + k) % 2048;
+    if methods.increasing {
+        return ((methods.method as u64 + k as u64) % 2048) as u32;
     }
-    parameters.method
+    methods.method
 }
 
 // Whether no parameter goes to a method below 0x100: the first one's is above, and the last comes before
 // or to 0x1ffc.
-fn none_special(parameters: Parameters) -> bool
-    requires { ⌜ Fit parameters ⌝ }
-    ensures { λ r. ⌜ (r ≡ true → (level : ℕ) → lacking level parameters ≡ false) ⌝ }
+fn none_special(methods: Methods, count: u32) -> bool
+    ensures { λ r. ⌜ (r ≡ true → (level : ℕ) → anyFails (presentOf level) methods count ≡ false) ⌝ }
 {
-    if parameters.method < 0x40 {
+    if methods.method < 0x40 {
         return false;
     }
-    parameters.method + parameters.count <= 2048
+    methods.method as u64 + count as u64 <= 2048
 }
 
 // Whether the level lacks the method of any parameter. Most runs have none that is special.
-pub(crate) fn any_lacking(level: Level, parameters: Parameters) -> bool
-    requires { ⌜ Fit parameters ⌝ }
-    ensures { λ r. ⌜ r ≡ lacking (level .number) parameters ⌝ }
+pub(crate) fn any_lacking(setting: Setting, methods: Methods, count: u32) -> bool
+    ensures { λ r. ⌜ r ≡ anyFails (presentOf (setting .level .number)) methods count ⌝ }
 {
-    if none_special(parameters) {
+    if none_special(methods, count) {
         return false;
     }
-    for k in 0..parameters.count {
-        if !present(level, 4 * method_for(parameters, k)) {
+    for k in 0..count {
+        if !present(setting.level, method_for(methods, k)) {
             return true;
         }
     }
@@ -84,12 +101,11 @@ pub(crate) fn any_lacking(level: Level, parameters: Parameters) -> bool
 }
 
 // Whether the list does not permit the method of any parameter.
-pub(crate) fn any_denied(permit: &[u8], parameters: Parameters) -> bool
-    requires { ⌜ (length (now permit) ≡ 2048) × Fit parameters ⌝ }
-    ensures { λ r. ⌜ r ≡ denied (now (permit .entry)) parameters ⌝ }
+pub(crate) fn any_denied(permit: &[u8], methods: Methods, count: u32) -> bool
+    ensures { λ r. ⌜ r ≡ anyFails (permits (now (permit .entry)) (methods .subchannel)) methods count ⌝ }
 {
-    for k in 0..parameters.count {
-        if !permitted(permit, parameters.subchannel, method_for(parameters, k)) {
+    for k in 0..count {
+        if !permitted(permit, methods.subchannel, method_for(methods, k)) {
             return true;
         }
     }

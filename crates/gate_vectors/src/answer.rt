@@ -49,7 +49,7 @@ pub(crate) fn answered(
 fn asked(question: Question, wanted: Answer, words: &[u8], map: &[u8], permit: &[u8]) -> Answer {
     let level = question.level;
     let sli = question.sli;
-    let exported = unpacked(gate::upborliya_judge(level, sli, words, map, permit));
+    let exported = unpacked(upborliya::upborliya_judge(level, sli, words, map, permit));
     if same(wanted, exported) {
         return told(gate::judge(level, sli != 0, words, map, permit));
     }

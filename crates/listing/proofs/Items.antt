@@ -12,8 +12,8 @@ use borrow.Author.Tests.{lt-leb, le-leb, ltb-true, ltb-false}
 use Rattle.word.specs.First.{choose, first}
 use Rattle.word.specs.Setting.{settingCases, sizeCases, refusedOr}
 use Rattle.word.specs.Form.{sliConditional, returning, oldJump, jump, call, everythingElse, forms}
-use Rattle.word.specs.Reading.{number, form, readingOf, readAtOf}
-use Rattle.word.specs.Writing.{nextWord, wordsOf}
+use Rattle.word.specs.Reading.{number, form, parameterCount, readingOf, readAtOf}
+use Rattle.word.specs.Writing.{nextWord, ownWords}
 use Rattle.word.specs.declared.setting.Setting.{Setting}
 use Rattle.word.specs.declared.reading.Reading.{Reading}
 use Rattle.word.specs.declared.reading.Reading.the-variants.{Increasing, NonIncreasing, Sli, Return, Long, OldJump, Jump, Call, Reserved, Refused}
@@ -21,7 +21,7 @@ use Rattle.word.specs.declared.reading.Place.{Place}
 use Rattle.word.specs.declared.reading.Place.the-variants as place
 use Rattle.word.proofs.First.{by-test, choose-true, choose-false, append-none, first-none}
 use Rattle.word.proofs.reading.Reading.{the-type}
-use Rattle.listing.specs.Listing.{parameters, span, endsAt, commandAt, listOf}
+use Rattle.listing.specs.Listing.{span, endsAt, itemOf, listOf}
 use Rattle.listing.specs.declared.command.Item.the-variants as item
 use Rattle.listing.specs.declared.command.Listed.{Listed}
 
@@ -30,7 +30,7 @@ abbrev bare : List ℕ
 bare = 2 ∷ 3 ∷ 5 ∷ 6 ∷ 7 ∷ 8 ∷ 9 ∷ []
 
 pub span-bare : (r : Reading) → OneOf bare (tagOf the-type r) → 1 ≡ span r
-unfolding span parameters wordsOf nextWord form number forms sliConditional returning oldJump jump call everythingElse
+unfolding span parameterCount ownWords nextWord form number forms sliConditional returning oldJump jump call everythingElse
 span-bare (Increasing c s m) h = absurd (miss bare 0 tt h)
 span-bare (NonIncreasing c s m) h = absurd (miss bare 1 tt h)
 span-bare (Sli k) h = refl
@@ -61,7 +61,7 @@ not-reserved (Refused r) h e = omega arith
 
 -- the item of what stands at place p of n words
 unfoldable pub listed : ℕ → ℕ → Place → Listed
-listed n p (place.Word r) = commandAt r n p
+listed n p (place.Word r) = itemOf r n p
 listed n p place.Past = endsAt p item.Past
 listed n p (place.Refused x) = endsAt p (item.Refused x)
 
@@ -77,7 +77,7 @@ module _ (s : Setting) (ws : List ℕ) (p : ℕ) where
   found = choose (ltb p (length ws)) (place.Word word) place.Past
 
   abbrev pub here : Listed
-  here = choose (leb (length ws) p) (endsAt p item.Past) (commandAt word (length ws) p)
+  here = choose (leb (length ws) p) (endsAt p item.Past) (itemOf word (length ws) p)
 
   -- a listing's refusals are those of `read_at`, and its item that of what `read_at` finds
   pub by-place : listOf s ws p ≡ listed (length ws) p (readAtOf s ws p)

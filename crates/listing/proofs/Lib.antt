@@ -1,2 +1,4 @@
 pub mod Items
 pub mod Promises
+pub mod Walk
+pub mod Reader

@@ -12,7 +12,7 @@ use denote.Ref.{now}
 use borrow.Author.Tests.{lt-ltb, le-ltb, le-leb, lt-leb, eq-eqb, ne-eqb, leb-true, eqb-true}
 use Rattle.word.specs.First.{FirstIs}
 use Rattle.word.specs.Setting.{settingCases, sizeCases, refusedOr, checkOf, SIZE}
-use Rattle.word.specs.Reading.{readOf}
+use Rattle.word.specs.Reading.{parameterCount, readOf}
 use Rattle.word.specs.Reading as reading
 use Rattle.word.specs.Contracts.{Reads}
 use Rattle.word.specs.Promises.{settingPlain, sizePlain, size}
@@ -25,7 +25,7 @@ use Rattle.word.proofs.First.{by-test, choose-true, choose-false, one-outcome, 
 use Rattle.word.proofs.Settings.{accepted, told-first, told-plain, passed-by, miss, no-more}
 use Rattle.word.proofs.Plainly.{form-plain, size-is, setting-agree, size-agree}
 use Rattle.word.proofs.Promises.{passed as written-passed, is-command, read-back}
-use Rattle.listing.specs.Listing.{parameters, span, endsAt, commandAt, listOf}
+use Rattle.listing.specs.Listing.{span, endsAt, itemOf, listOf}
 use Rattle.listing.specs.Answers.{number, itemRefusal}
 use Rattle.listing.specs.Contracts.{ListsAt, movedTo}
 use Rattle.listing.specs.Promises.{Refused, One, Stays, Items, Made, nothing, more, InTurn, over, on, GivesBack}
@@ -35,14 +35,14 @@ use Rattle.listing.specs.declared.command.Listed.{Listed}
 use Rattle.listing.proofs.Items.{refusals, word, here}
 
 -- a command's words are its own and its parameters
-span-is : (r : Reading) → span r ≡ size r + parameters r
+span-is : (r : Reading) → span r ≡ size r + parameterCount r
 unfolding span
-span-is r = ap (λ (n : ℕ). n + parameters r) (size-is r)
+span-is r = ap (λ (n : ℕ). n + parameterCount r) (size-is r)
 
 module _ (s : Setting) (ws : List ℕ) (p : ℕ) where
   -- where nothing is refused, nothing says that something is
   plain : itemRefusal (here s ws p .item) ≡ none
-  unfolding commandAt itemRefusal
+  unfolding itemOf itemRefusal
   plain = by-test Plain (λ t. refl) (λ t. by-test Plain (λ t. refl) (λ t. by-test Plain (λ t. refl) (λ t. refl)))
     where
       Plain : Listed → Type 0
@@ -68,7 +68,7 @@ module _ (s : Setting) (ws : List ℕ) (p : ℕ) where
 
   -- what is no command leaves the place as it was
   stays-at : 2 ≤ number (listOf s ws p .item) → listOf s ws p .place ≡ p
-  unfolding commandAt listOf refusedOr number
+  unfolding itemOf listOf refusedOr number
   stays-at = by-cases (refusals s ws p)
     where
       Still : Listed → Type 0
@@ -99,8 +99,8 @@ pub stays : Stays
 stays s l a exit g h = g .reader ∙ ap (movedTo l) (stays-at s (now (l .words)) (l .place) (subst (λ (x : Item). 2 ≤ number x) (g .item) h))
 
 -- a word is not past the last
-not-past : (r : Reading) (n p : ℕ) → number (commandAt r n p .item) ≡ 2 → ⊥
-unfolding commandAt number
+not-past : (r : Reading) (n p : ℕ) → number (itemOf r n p .item) ≡ 2 → ⊥
+unfolding itemOf number
 not-past r n p = by-test Not (λ t d. omega arith) (λ t. by-test Not (λ t d. omega arith) (λ t d. omega arith))
   where
     Not : Listed → Type 0
@@ -119,15 +119,15 @@ module _ (s : Setting) (ws : List ℕ) (p : ℕ) (a : Listed) (c : ListsAt s ws 
 
   -- and before it the item that the reading there is
   module _ (r : Reading) (h : p < length ws) (d : Reads s (getD ws p 0) (getD ws (p + 1) 0) r) where
-    at-word : a ≡ commandAt r (length ws) p
+    at-word : a ≡ itemOf r (length ws) p
     unfolding readOf
     at-word =
         accepts s ws p a c e ∙ choose-false (lt-leb _ _ h) _ _
-        ∙ ap (λ (x : Reading). commandAt x (length ws) p)
+        ∙ ap (λ (x : Reading). itemOf x (length ws) p)
         (sym (d ∙ accepted reads.Refused _ (append-none (settingCases s) (sizeCases (length ws)) (passed s ws p a c e) .0)))
 
     reserved-only : a .item ≡ item.Reserved → reading.number r ≡ 9
-    unfolding commandAt number
+    unfolding itemOf number
     reserved-only k =
         by-test Only (λ t i. eqb-true _ _ t) (λ t. by-test Only (λ t i. absurd (omega arith)) (λ t i. absurd (omega arith)))
         (ap (λ (x : Listed). number (x .item)) (sym at-word) ∙ ap number k)
@@ -136,27 +136,27 @@ module _ (s : Setting) (ws : List ℕ) (p : ℕ) (a : Listed) (c : ListsAt s ws 
         Only x = number (x .item) ≡ 3 → reading.number r ≡ 9
 
     reserved-there : reading.number r ≡ 9 → a .item ≡ item.Reserved
-    unfolding commandAt
+    unfolding itemOf
     reserved-there k = ap (λ (x : Listed). x .item) (at-word ∙ choose-true (eq-eqb _ _ k) _ _)
 
     module _ (k : reading.number r ≤ 8) where
       other : reading.number r ≡ 9 → ⊥
       other q = omega arith
 
-      runs-short : length ws < p + size r + parameters r → a .item ≡ item.Short
-      unfolding commandAt
+      runs-short : length ws < p + size r + parameterCount r → a .item ≡ item.Short
+      unfolding itemOf
       runs-short l =
           let all = span-is r in
           let short : length ws < p + span r = omega arith in
           ap (λ (x : Listed). x .item) (at-word ∙ choose-false (ne-eqb _ _ other) _ _ ∙ choose-true (lt-ltb _ _ short) _ _)
 
-      commands : p + size r + parameters r ≤ length ws → (a .item ≡ item.Command r) × (a .place ≡ p + size r + parameters r)
-      unfolding commandAt
+      commands : p + size r + parameterCount r ≤ length ws → (a .item ≡ item.Command r) × (a .place ≡ p + size r + parameterCount r)
+      unfolding itemOf
       commands l =
           let all = span-is r in
           let whole : p + span r ≤ length ws = omega arith in
           let there : a ≡ record { item = item.Command r; place = p + span r } = at-word ∙ choose-false (ne-eqb _ _ other) _ _ ∙ choose-false (le-ltb _ _ whole) _ _ in
-          let after : p + span r ≡ p + size r + parameters r = omega arith in
+          let after : p + span r ≡ p + size r + parameterCount r = omega arith in
           (ap (λ (x : Listed). x .item) there, ap (λ (x : Listed). x .place) there ∙ after)
 
 pub items : Items

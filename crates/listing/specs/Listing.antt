@@ -6,39 +6,25 @@ use lib.Dec.{eqb, leb, ltb}
 use lib.ListN.{length, getD}
 use Rattle.word.specs.First.{choose, first}
 use Rattle.word.specs.Setting.{settingCases, sizeCases, refusedOr}
-use Rattle.word.specs.Reading.{number, readingOf}
-use Rattle.word.specs.Writing.{wordsOf}
+use Rattle.word.specs.Reading.{number, parameterCount, readingOf}
+use Rattle.word.specs.Writing.{ownWords}
 use Rattle.word.specs.declared.setting.Setting.{Setting}
 use Rattle.word.specs.declared.reading.Reading.{Reading}
-use Rattle.word.specs.declared.reading.Reading.the-variants.{Increasing, NonIncreasing, Sli, Return, Long, OldJump, Jump, Call, Reserved, Refused}
 use Rattle.listing.specs.declared.command.Item.{Item}
 use Rattle.listing.specs.declared.command.Item.the-variants as item
 use Rattle.listing.specs.declared.command.Listed.{Listed}
 
--- how many parameters follow a command's own words: its count
-unfoldable pub parameters : Reading → ℕ
-parameters (Increasing c s m) = c
-parameters (NonIncreasing c s m) = c
-parameters (Sli k) = 0
-parameters Return = 0
-parameters (Long s m c) = c
-parameters (OldJump t) = 0
-parameters (Jump t) = 0
-parameters (Call t) = 0
-parameters Reserved = 0
-parameters (Refused r) = 0
-
 -- a command's words: those that the writer writes, "a command's first word and a long form's count word", and its parameters
 unfoldable pub span : Reading → ℕ
-span r = length (wordsOf r) + parameters r
+span r = length (ownWords r) + parameterCount r
 
 -- an end: it "stays there"
 abbrev pub endsAt : ℕ → Item → Listed
 endsAt p i = record { item = i; place = p }
 
 -- "at a reserved word" (number 9) "or at a command whose words run short"; else the command, and the place after its words
-unfoldable pub commandAt : Reading → ℕ → ℕ → Listed
-commandAt r n p =
+unfoldable pub itemOf : Reading → ℕ → ℕ → Listed
+itemOf r n p =
     choose (eqb (number r) 9) (endsAt p item.Reserved)
     (choose (ltb n (p + span r)) (endsAt p item.Short)
     (record { item = item.Command r; place = p + span r }))
@@ -47,4 +33,4 @@ commandAt r n p =
 unfoldable pub listOf : Setting → List ℕ → ℕ → Listed
 listOf s ws p =
     refusedOr (λ n. endsAt p (item.Refused n)) (first (settingCases s ++ sizeCases (length ws)))
-    (choose (leb (length ws) p) (endsAt p item.Past) (commandAt (readingOf s (getD ws p 0) (getD ws (p + 1) 0)) (length ws) p))
+    (choose (leb (length ws) p) (endsAt p item.Past) (itemOf (readingOf s (getD ws p 0) (getD ws (p + 1) 0)) (length ws) p))

@@ -10,12 +10,12 @@ use Rattle.word.specs.First.{FirstIs}
 use Rattle.word.specs.Answers.{writtenRefusal}
 use Rattle.word.specs.Contracts.{Checks, Reads, Writes}
 use Rattle.word.specs.Promises.{settingPlain, sizePlain, size}
+use Rattle.word.specs.Reading.{parameterCount}
 use Rattle.word.specs.Reading as reading
 use Rattle.word.specs.declared.setting.Setting.{Setting}
 use Rattle.word.specs.declared.setting.Check.the-variants.{Fine}
 use Rattle.word.specs.declared.reading.Reading.{Reading}
 use Rattle.word.specs.declared.writing.Written.{Written}
-use Rattle.listing.specs.Listing.{parameters}
 use Rattle.listing.specs.Answers.{number, itemRefusal}
 use Rattle.listing.specs.Contracts.{ListsAt, Begins, Gives}
 use Rattle.listing.specs.declared.command.Item.{Item}
@@ -70,7 +70,7 @@ pub record Items : Type 0 where
       → p < length ws
       → Reads s (getD ws p 0) (getD ws (p + 1) 0) r
       → reading.number r ≤ 8
-      → length ws < p + size r + parameters r
+      → length ws < p + size r + parameterCount r
       → a .item ≡ Short
   pub command :
       (s : Setting) (ws : List ℕ) (p : ℕ) (a : Listed) (r : Reading)
@@ -79,8 +79,8 @@ pub record Items : Type 0 where
       → p < length ws
       → Reads s (getD ws p 0) (getD ws (p + 1) 0) r
       → reading.number r ≤ 8
-      → p + size r + parameters r ≤ length ws
-      → (a .item ≡ Command r) × (a .place ≡ p + size r + parameters r)
+      → p + size r + parameterCount r ≤ length ws
+      → (a .item ≡ Command r) × (a .place ≡ p + size r + parameterCount r)
 
 -- Listing what the writer wrote gives the commands back.
 
@@ -93,7 +93,7 @@ pub data Made (s : Setting) : List Reading → List ℕ → Type 0 where
       → Writes s r out a own
       → writtenRefusal a ≡ none
       → length out ≡ size r
-      → length ps ≡ parameters r
+      → length ps ≡ parameterCount r
       → Made s rs ws
       → Made s (r ∷ rs) (own ++ ps ++ ws)
 

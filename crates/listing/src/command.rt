@@ -1,7 +1,7 @@
 // What a listing gives at a place of lent words, and the place after it.
 ghost use mathlib.Core.Path.{_≡_};
 ghost use Prim.Native.Nat.{_<_, _≤_};
-ghost use Rattle.listing.specs.Listing.{span, commandAt};
+ghost use Rattle.listing.specs.Listing.{span, itemOf};
 ghost use Rattle.listing.specs.Contracts.{ListsAt};
 use word::Place;
 use word::Reading;
@@ -31,7 +31,7 @@ pub fn list_at(setting: Setting, words: &[u32], place: usize) -> Listed
 {
     let found = read_at(setting, words, place);
     match found {
-        Place::Word { reading } => command_at(reading, words.len(), place),
+        Place::Word { reading } => item_of(reading, words.len(), place),
         Place::Past => Listed {
             item: Item::Past,
             place,
@@ -44,9 +44,9 @@ pub fn list_at(setting: Setting, words: &[u32], place: usize) -> Listed
 }
 
 // The item that a reading is, at a place of so many words.
-fn command_at(reading: Reading, words: usize, place: usize) -> Listed
+fn item_of(reading: Reading, words: usize, place: usize) -> Listed
     requires { ⌜ (place < words) × (words ≤ 1048576) ⌝ }
-    ensures { λ r. ⌜ r ≡ commandAt reading words place ⌝ }
+    ensures { λ r. ⌜ r ≡ itemOf reading words place ⌝ }
 {
     if let Reading::Reserved = reading {
         return Listed {

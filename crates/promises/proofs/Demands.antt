@@ -3,17 +3,21 @@ use Rattle.word.proofs.Promises as word
 use Rattle.event.proofs.Promises as event
 use Rattle.puller.proofs.Failing as puller-failing
 use Rattle.puller.proofs.Promises as puller
+use Rattle.puller.proofs.Widths as puller-widths
 use Rattle.pusher.proofs.Failing as pusher-failing
 use Rattle.pusher.proofs.Promises as pusher
-use Rattle.channel.proofs.Carried as channel-carried
+use Rattle.pusher.proofs.Widths as pusher-widths
+use Rattle.channel.proofs.AtMostOneMove as channel-moves
+use Rattle.channel.proofs.Idling as channel-idling
 use Rattle.channel.proofs.Promises as channel
 use Rattle.channel.proofs.ReadAs as channel-read
 use Rattle.rules.proofs.Examples as rules-examples
-use Rattle.rules.proofs.Packs as rules-packs
 use Rattle.rules.proofs.Promises as rules
 use Rattle.rules.proofs.Reasons as rules-reasons
 use Rattle.rules.proofs.Sound as rules-sound
 use Rattle.rules.proofs.SoundMoves as rules-moves
+use Rattle.upborliya.proofs.GivesBack as upborliya-back
+use Rattle.upborliya.proofs.Promises as upborliya
 use Rattle.listing.proofs.Promises as listing
 use Rattle.trace.proofs.Promises as trace
 use Rattle.promises.specs.Demands.{First, Second, Third, Demands}
@@ -28,12 +32,15 @@ first =
       listing-refused = listing.refused;
       trace-refused = trace.refused;
       gate-reasons = rules-reasons.reasons;
+      gate-first-pairs = rules-reasons.first-pairs;
+      gate-at-one-pair = rules-reasons.at-one-pair;
       word-one = word.one;
       event-one = event.one;
       puller-one = puller.one;
       pusher-one = pusher.one;
       channel-one = channel.one;
       gate-one = rules.one;
+      c-one = upborliya.one;
       listing-one = listing.one;
       trace-one = trace.one;
     }
@@ -42,6 +49,7 @@ second : Second
 second =
     record {
       steps = channel.steps;
+      setters = channel.setters;
       pusher-failing = pusher-failing.failing;
       puller-failing = puller-failing.failing;
       first-repeat = puller.first-repeat;
@@ -49,6 +57,9 @@ second =
       pusher-no-other = pusher.no-other;
       puller-no-other = puller.no-other;
       kept = channel.kept;
+      pusher-widths = pusher-widths.keeps-widths;
+      puller-widths = puller-widths.keeps-widths;
+      idle = channel-idling.idle;
       told = event.told;
       read-back = word.read-back;
       write-back = word.write-back;
@@ -74,13 +85,13 @@ third =
     record {
       sound = rules-sound.sound;
       sound-moves = rules-moves.sound-moves;
-      at-most-one-move = channel-carried.at-most-one-move;
+      at-most-one-move = channel-moves.at-most-one-move;
       read-as = channel-read.read-as;
       complete = rules.complete;
       none-bad = rules.none-bad;
       examples = rules-examples.examples;
       counted = rules.counted;
-      gives-back = rules-packs.gives-back;
+      c-gives-back = upborliya-back.gives-back;
     }
 
 pub demands : Demands

@@ -6,11 +6,14 @@ use Rattle.word.specs.Numbers as numbers
 use Rattle.word.specs.Promises as word
 use Rattle.event.specs.Promises as event
 use Rattle.puller.specs.Promises as puller
+use Rattle.puller.specs.Widths as puller-widths
 use Rattle.pusher.specs.Promises as pusher
+use Rattle.pusher.specs.Widths as pusher-widths
 use Rattle.channel.specs.Promises as channel
 use Rattle.rules.specs.Promises as rules
 use Rattle.rules.specs.Reasons as reasons
 use Rattle.rules.specs.Examples as examples
+use Rattle.upborliya.specs.Promises as upborliya
 use Rattle.listing.specs.Promises as listing
 use Rattle.trace.specs.Promises as trace
 
@@ -23,8 +26,10 @@ pub record First : Type 0 where
   pub gate-refused : rules.Refused
   pub listing-refused : listing.Refused
   pub trace-refused : trace.Refused
-  -- and so is a reason, with its place
+  -- and so is a reason, with its place; of the first refused pair also its state, and of one pair each part of the list by itself
   pub gate-reasons : reasons.Reasons
+  pub gate-first-pairs : reasons.FirstPairs
+  pub gate-at-one-pair : reasons.AtOnePair
   -- and no contract leaves two outcomes
   pub word-one : word.One
   pub event-one : event.One
@@ -32,6 +37,7 @@ pub record First : Type 0 where
   pub pusher-one : pusher.One
   pub channel-one : channel.One
   pub gate-one : rules.One
+  pub c-one : upborliya.One
   pub listing-one : listing.One
   pub trace-one : trace.One
 
@@ -40,6 +46,7 @@ pub record First : Type 0 where
 pub record Second : Type 1 where
   -- what the channel, its pusher and its puller do, sentence by sentence, at every channel that is not refused
   pub steps : channel.Steps
+  pub setters : channel.Setters
   pub pusher-failing : pusher.Failing
   pub puller-failing : puller.Failing
   pub first-repeat : puller.FirstRepeat
@@ -47,8 +54,12 @@ pub record Second : Type 1 where
   pub channel-no-other : channel.NoOther
   pub pusher-no-other : pusher.NoOther
   pub puller-no-other : puller.NoOther
-  -- what is opened is never refused as ill-formed, whatever puts and steps come after
+  -- what is opened is never refused as ill-formed, whatever puts and steps come after, since neither half leaves its widths
   pub kept : channel.Kept
+  pub pusher-widths : pusher-widths.KeepsWidths
+  pub puller-widths : puller-widths.KeepsWidths
+  -- whether a further step would be idle
+  pub idle : channel.Idle
   pub told : event.Told
   -- reader and writer
   pub read-back : word.ReadBack
@@ -91,7 +102,7 @@ pub record Third : Type 0 where
   pub examples : examples.Examples
   -- the count of the answer is the number of permitted methods, and the number for C gives the answer back
   pub counted : rules.Counted
-  pub gives-back : rules.GivesBack
+  pub c-gives-back : upborliya.GivesBack
 
 pub record Demands : Type 1 where
   pub first : First

@@ -1,6 +1,6 @@
 -- What a method is to the puller, by its number or the range that it is in. Assumes nothing.
 use Prim.Native.Nat.{ℕ, _≤_, _<_}
-use mathlib.Core.Path.{_≡_, refl, _∙_}
+use mathlib.Core.Path.{_≡_, refl, ap, _∙_}
 use mathlib.Core.Bool.{Bool, true, false, _&&_, and-false}
 use mathlib.Core.List.{List}
 use mathlib.Core.Logic.{_⊎_, ⊎-elim}
@@ -12,6 +12,7 @@ use Rattle.word.specs.declared.setting.Level.{Level}
 use Rattle.word.proofs.First.{choose-true, choose-false}
 use Rattle.word.proofs.Methods.{beside}
 use Rattle.event.specs.declared.Method.{Method}
+use Rattle.puller.specs.Loan.{PullerLoan}
 use Rattle.puller.specs.Taking.{Deed, binds, refers, logs, bindsSemaphore, offsets, acquires, releases, forwards, looksAndForwards, rows, deedIn, deedOf, act, takeOf}
 use Rattle.puller.specs.Contracts.{Takes}
 use Rattle.puller.specs.declared.record.Puller.{Puller}
@@ -32,32 +33,20 @@ unfolding choose
 same true d = refl
 same false d = refl
 
+-- the methods that have a number of their own
+pub record Numbered (m : ℕ) : Type 0 where
+  pub bind : m ≡ 0x00 → deedOf m ≡ binds
+  pub ref : m ≡ 0x50 → deedOf m ≡ refers
+  pub dma : m ≡ 0x60 → deedOf m ≡ bindsSemaphore
+  pub offset : m ≡ 0x64 → deedOf m ≡ offsets
+  pub acquire : m ≡ 0x68 → deedOf m ≡ acquires
+  pub release : m ≡ 0x6c → deedOf m ≡ releases
+
+pub numbered : (m : ℕ) → Numbered m
+unfolding deedOf deedIn rows choose
+numbered m = record { bind = ap deedOf; ref = ap deedOf; dma = ap deedOf; offset = ap deedOf; acquire = ap deedOf; release = ap deedOf }
+
 module _ (m : ℕ) where
-  -- the methods that have a number of their own
-  pub binds-at : m ≡ 0x00 → deedOf m ≡ binds
-  unfolding deedOf deedIn rows choose
-  binds-at e = rw e
-
-  pub refers-at : m ≡ 0x50 → deedOf m ≡ refers
-  unfolding deedOf deedIn rows choose
-  refers-at e = rw e
-
-  pub binds-semaphore-at : m ≡ 0x60 → deedOf m ≡ bindsSemaphore
-  unfolding deedOf deedIn rows choose
-  binds-semaphore-at e = rw e
-
-  pub offsets-at : m ≡ 0x64 → deedOf m ≡ offsets
-  unfolding deedOf deedIn rows choose
-  offsets-at e = rw e
-
-  pub acquires-at : m ≡ 0x68 → deedOf m ≡ acquires
-  unfolding deedOf deedIn rows choose
-  acquires-at e = rw e
-
-  pub releases-at : m ≡ 0x6c → deedOf m ≡ releases
-  unfolding deedOf deedIn rows choose
-  releases-at e = rw e
-
   -- below 0x100 every other is an event: those of the two ranges, and what is never submitted
   pub no-effect-at :
       m < 0x100
@@ -73,9 +62,9 @@ module _ (m : ℕ) where
       simp (another 0x00 m n0, another 0x50 m n50, another 0x60 m n60, another 0x64 m n64, another 0x68 m n68, another 0x6c m n6c, lt-leb 0x180 m (omega arith), lt-leb 0x100 m l, same)
 
   pub logs-at : (m ≡ 0x80) ⊎ ((0x10 ≤ m) × (m ≤ 0x24)) → deedOf m ≡ logs
+  unfolding deedOf deedIn rows choose
   logs-at s =
-      ⊎-elim
-      (λ e. no-effect-at (omega arith) (λ q. omega arith) (λ q. omega arith) (λ q. omega arith) (λ q. omega arith) (λ q. omega arith) (λ q. omega arith))
+      ⊎-elim (λ e. ap deedOf e)
       (λ h. no-effect-at (omega arith) (λ q. omega arith) (λ q. omega arith) (λ q. omega arith) (λ q. omega arith) (λ q. omega arith) (λ q. omega arith))
       s
 
@@ -94,10 +83,10 @@ module _ (m : ℕ) where
 
 -- what is taken, by what the method is
 pub taken-by :
-    {level : Level} {p : Puller} {m : Method} {t sems : List ℕ} {r : Taken} {exit : List ℕ} (d : Deed)
+    {level : Level} {p : Puller} {m : Method} {l : PullerLoan} {r : Taken} {exit : List ℕ} (d : Deed)
     → deedOf (m .method) ≡ d
-    → r ≡ act (level .number) p m t sems d .taken
-    → exit ≡ act (level .number) p m t sems d .memory
-    → Takes level p m t sems r exit
+    → r ≡ act (level .number) p m l d .taken
+    → exit ≡ act (level .number) p m l d .memory
+    → Takes level p m l r exit
 unfolding takeOf
 taken-by d e a b = record { answer = rw e a; memory = rw e b }

@@ -2,7 +2,9 @@ pub mod Table
 pub mod Engines
 pub mod Deeds
 pub mod Causes
-pub mod Failing
 pub mod Sentences
 pub mod Promises
+pub mod Ways
+pub mod Failing
 pub mod Telling
+pub mod Widths

@@ -6,10 +6,10 @@ use mathlib.Core.Logic.{_⊎_, inl, inr, ⊎-elim, by-cases}
 use native.Mathlib.Decide.{ℕ-discrete, decLt}
 use native.Mathlib.Omega.{arith}
 use lib.ListN.{length}
-use borrow.Author.Tests.{le-leb, lt-leb, eq-eqb, ne-eqb}
 use Rattle.word.specs.declared.setting.Level.{Level}
-use Rattle.word.proofs.First.{one-outcome, choose-true, choose-false}
+use Rattle.word.proofs.First.{one-outcome}
 use Rattle.event.specs.declared.Method.{Method}
+use Rattle.puller.specs.Loan.{PullerLoan}
 use Rattle.puller.specs.Record.{engineOf}
 use Rattle.puller.specs.Taking.{binds, refers, logs, bindsSemaphore, offsets, acquires, releases, forwards, looksAndForwards, Result, retryOf, releaseOf, act, pastEnd}
 use Rattle.puller.specs.Contracts.{Takes}
@@ -18,8 +18,8 @@ use Rattle.puller.specs.declared.object.Object.{Object}
 use Rattle.puller.specs.declared.record.Puller.{Puller}
 use Rattle.puller.specs.declared.taking.Taken.{Taken}
 use Rattle.puller.proofs.Table.{named-is, unnamed-is, names-found, names-nothing, named-or-not, repeat-is, repeat-nothing}
-use Rattle.puller.proofs.Deeds.{binds-at, refers-at, binds-semaphore-at, offsets-at, acquires-at, releases-at, logs-at, no-effect-at, looks-at, forwards-at}
-use Rattle.puller.proofs.Sentences.{taken-as, unfit-or-not, bind-none, dma-none, object-none, bind-is, bind-software-is, dma-unfit-is, dma-is, object-is, offset-outside-is, offset-below-4-is, offset-unaligned-is, offset-too-large-is, offset-from-4-is, ready-or-not, past-end-is, past-end-of, acquire-unready, release-unready, acquire-past, release-past, acquire-is, wait-is, release-is, forward-software-is, forward-is}
+use Rattle.puller.proofs.Deeds.{numbered, logs-at, no-effect-at, looks-at, forwards-at}
+use Rattle.puller.proofs.Sentences.{taken-as, unfit-or-not, bind-none, dma-none, object-none, bind-is, bind-software-is, dma-unfit-is, dma-is, object-is, offset-outside-is, offset-below-4-is, offset-unaligned-is, offset-too-large-is, offset-from-4-is, ready-or-not, past-end-of, tried-past, tried-equal, tried-unequal, acquire-unready, release-unready, acquire-past, release-past, acquire-is, wait-is, release-is, forward-software-is, forward-is}
 
 pub looks : Looks
 looks =
@@ -39,56 +39,56 @@ first-repeat =
 
 -- the one method that may write: its answer and its memory from one equation
 by-release :
-    {level : Level} {p : Puller} {m : Method} {t sems : List ℕ} {r : Taken} {exit : List ℕ}
-    → Takes level p m t sems r exit
+    {level : Level} {p : Puller} {m : Method} {l : PullerLoan} {r : Taken} {exit : List ℕ}
+    → Takes level p m l r exit
     → m .method ≡ 0x6c
     → {x : Result}
-    → releaseOf (level .number) p m sems ≡ x
+    → releaseOf (level .number) p m (l .semaphores) ≡ x
     → (r ≡ x .taken) × (exit ≡ x .memory)
 unfolding act
-by-release k e f = taken-as releases k (releases-at _ e) (ap (λ (x : Result). x .taken) f) (ap (λ (x : Result). x .memory) f)
+by-release k e f = taken-as releases k (numbered _ .release e) (ap (λ (x : Result). x .taken) f) (ap (λ (x : Result). x .memory) f)
 
 pub pulls : Pulls
 unfolding act
 pulls =
     record {
-      bind = λ level p m t sems exit o r k e n some. taken-as binds k (binds-at _ e) (bind-is p m t o n some) refl;
-      bind-software = λ level p m t sems exit o r k e n z. taken-as binds k (binds-at _ e) (bind-software-is p m t o n z) refl;
-      no-hash = λ level p m t sems exit r k s n.
-          ⊎-elim (λ e. taken-as binds k (binds-at _ e) (bind-none p m t n) refl)
+      bind = λ level p m l exit o r k e n some. taken-as binds k (numbered _ .bind e) (bind-is p m (l .table) o n some) refl;
+      bind-software = λ level p m l exit o r k e n z. taken-as binds k (numbered _ .bind e) (bind-software-is p m (l .table) o n z) refl;
+      no-hash = λ level p m l exit r k s n.
+          ⊎-elim (λ e. taken-as binds k (numbered _ .bind e) (bind-none p m (l .table) n) refl)
           (λ s.
-          ⊎-elim (λ e. taken-as bindsSemaphore k (binds-semaphore-at _ e) (dma-none p m t n _) refl)
-          (λ h. taken-as looksAndForwards k (looks-at _ (h .0) (h .1)) (object-none p m t n) refl) s)
+          ⊎-elim (λ e. taken-as bindsSemaphore k (numbered _ .dma e) (dma-none p m (l .table) n _) refl)
+          (λ h. taken-as looksAndForwards k (looks-at _ (h .0) (h .1)) (object-none p m (l .table) n) refl) s)
           s;
-      ref = λ level p m t sems exit r k e. taken-as refers k (refers-at _ e) refl refl;
-      event = λ level p m t sems exit r k s. taken-as logs k (logs-at _ s) refl refl;
-      unnamed = λ level p m t sems exit r k u.
+      ref = λ level p m l exit r k e. taken-as refers k (numbered _ .ref e) refl refl;
+      event = λ level p m l exit r k s. taken-as logs k (logs-at _ s) refl refl;
+      unnamed = λ level p m l exit r k u.
           taken-as logs k
           (no-effect-at _ (u .special) (u .not-bind) (u .not-ref) (u .not-dma) (u .not-offset) (u .not-acquire) (u .not-release)) refl refl;
-      dma-unfit = λ level p m t sems exit o r k e n u. taken-as bindsSemaphore k (binds-semaphore-at _ e) (dma-unfit-is p m t o n level u) refl;
-      dma = λ level p m t sems exit o r k e n u. taken-as bindsSemaphore k (binds-semaphore-at _ e) (dma-is p m t o n level u) refl;
-      offset-outside = λ level p m t sems exit r k e l s. taken-as offsets k (offsets-at _ e) (offset-outside-is level p m l s) refl;
-      offset-below-4 = λ level p m t sems exit r k e l a b. taken-as offsets k (offsets-at _ e) (offset-below-4-is level p m l a b) refl;
-      offset-unaligned = λ level p m t sems exit r k e l n. taken-as offsets k (offsets-at _ e) (offset-unaligned-is level p m l n) refl;
-      offset-too-large = λ level p m t sems exit r k e l a n. taken-as offsets k (offsets-at _ e) (offset-too-large-is level p m l a n) refl;
-      offset-from-4 = λ level p m t sems exit r k e l a b. taken-as offsets k (offsets-at _ e) (offset-from-4-is level p m l a b) refl;
-      unready = λ level p m t sems exit r k s u.
-          ⊎-elim (λ e. taken-as acquires k (acquires-at _ e) (acquire-unready level p m sems u) refl)
-          (λ e. by-release k e (release-unready level p m sems u)) s;
-      past-end = λ level p m t sems exit error r k s ready h.
-          ⊎-elim (λ e. taken-as acquires k (acquires-at _ e) (acquire-past level p m sems ready error h) refl)
-          (λ e. by-release k e (release-past level p m sems ready error h)) s;
-      acquire = λ level p m t sems exit r k e ready inside same.
-          taken-as acquires k (acquires-at _ e) (acquire-is level p m sems ready inside same) refl;
-      wait = λ level p m t sems exit r k e ready inside other.
-          taken-as acquires k (acquires-at _ e) (wait-is level p m sems ready inside other) refl;
-      release = λ level p m t sems exit r k e ready inside. by-release k e (release-is level p m sems ready inside);
-      forward-software = λ level p m t sems exit r k l s z. taken-as forwards k (forwards-at _ l s) (forward-software-is p m _ z) refl;
-      forward = λ level p m t sems exit r k l s n. taken-as forwards k (forwards-at _ l s) (forward-is p m _ n) refl;
-      object-software = λ level p m t sems exit o r k l h n z.
-          taken-as looksAndForwards k (looks-at _ l h) (object-is p m t o n ∙ forward-software-is p m _ z) refl;
-      object = λ level p m t sems exit o r k l h n some.
-          taken-as looksAndForwards k (looks-at _ l h) (object-is p m t o n ∙ forward-is p m _ some) refl;
+      dma-unfit = λ level p m l exit o r k e n u. taken-as bindsSemaphore k (numbered _ .dma e) (dma-unfit-is p m (l .table) o n level u) refl;
+      dma = λ level p m l exit o r k e n u. taken-as bindsSemaphore k (numbered _ .dma e) (dma-is p m (l .table) o n level u) refl;
+      offset-outside = λ level p m l exit r k e v s. taken-as offsets k (numbered _ .offset e) (offset-outside-is level p m v s) refl;
+      offset-below-4 = λ level p m l exit r k e v a b. taken-as offsets k (numbered _ .offset e) (offset-below-4-is level p m v a b) refl;
+      offset-unaligned = λ level p m l exit r k e v n. taken-as offsets k (numbered _ .offset e) (offset-unaligned-is level p m v n) refl;
+      offset-too-large = λ level p m l exit r k e v a n. taken-as offsets k (numbered _ .offset e) (offset-too-large-is level p m v a n) refl;
+      offset-from-4 = λ level p m l exit r k e v a b. taken-as offsets k (numbered _ .offset e) (offset-from-4-is level p m v a b) refl;
+      unready = λ level p m l exit r k s u.
+          ⊎-elim (λ e. taken-as acquires k (numbered _ .acquire e) (acquire-unready level p m (l .semaphores) u) refl)
+          (λ e. by-release k e (release-unready level p m (l .semaphores) u)) s;
+      past-end = λ level p m l exit error r k s ready h.
+          ⊎-elim (λ e. taken-as acquires k (numbered _ .acquire e) (acquire-past level p m (l .semaphores) ready error h) refl)
+          (λ e. by-release k e (release-past level p m (l .semaphores) ready error h)) s;
+      acquire = λ level p m l exit r k e ready inside same.
+          taken-as acquires k (numbered _ .acquire e) (acquire-is level p m (l .semaphores) ready inside same) refl;
+      wait = λ level p m l exit r k e ready inside other.
+          taken-as acquires k (numbered _ .acquire e) (wait-is level p m (l .semaphores) ready inside other) refl;
+      release = λ level p m l exit r k e ready inside. by-release k e (release-is level p m (l .semaphores) ready inside);
+      forward-software = λ level p m l exit r k v s z. taken-as forwards k (forwards-at _ v s) (forward-software-is p m _ z) refl;
+      forward = λ level p m l exit r k v s n. taken-as forwards k (forwards-at _ v s) (forward-is p m _ n) refl;
+      object-software = λ level p m l exit o r k v h n z.
+          taken-as looksAndForwards k (looks-at _ v h) (object-is p m (l .table) o n ∙ forward-software-is p m _ z) refl;
+      object = λ level p m l exit o r k v h n some.
+          taken-as looksAndForwards k (looks-at _ v h) (object-is p m (l .table) o n ∙ forward-is p m _ some) refl;
     }
 
 -- "0x10 to 0x24", or outside
@@ -97,17 +97,17 @@ logged-or-not m =
     by-cases (decLt m 0x10) (λ l. inr (inl l)) (λ n. by-cases (decLt 0x24 m) (λ l. inr (inr l)) (λ o. inl (omega arith, omega arith)))
 
 abbrev Relation : Type 1
-Relation = Level → Puller → Method → List ℕ → List ℕ → Taken → List ℕ → Type 0
+Relation = Level → Puller → Method → PullerLoan → Taken → List ℕ → Type 0
 
 -- No case is left open: at each a sentence applies, and it says the same of R and of `take`.
-module _ (R : Relation) (h : Sentences R) (level : Level) (p : Puller) (m : Method) (t sems exit : List ℕ) (r : Taken) (k : R level p m t sems r exit) where
+module _ (R : Relation) (h : Sentences R) (level : Level) (p : Puller) (m : Method) (l : PullerLoan) (exit : List ℕ) (r : Taken) (k : R level p m l r exit) where
   abbrev Agrees : Type 0
-  Agrees = Takes level p m t sems r exit
+  Agrees = Takes level p m l r exit
 
   -- the sentence is written once, for any relation that the sentences hold of
   said :
       {x : Taken} {y : List ℕ}
-      → ((Q : Relation) → Sentences Q → (a : Taken) (b : List ℕ) → Q level p m t sems a b → (a ≡ x) × (b ≡ y))
+      → ((Q : Relation) → Sentences Q → (a : Taken) (b : List ℕ) → Q level p m l a b → (a ≡ x) × (b ≡ y))
       → Agrees
   said f =
       let one = f R h r exit k in
@@ -115,81 +115,81 @@ module _ (R : Relation) (h : Sentences R) (level : Level) (p : Puller) (m : Meth
       record { answer = one-outcome (one .0) (other .0); memory = one-outcome (one .1) (other .1) }
 
   -- a method whose parameter is looked up: 0x00, 0x60, 0x180 to 0x1fc
-  looked-up : ((m .method ≡ 0x00) ⊎ (m .method ≡ 0x60) ⊎ ((0x180 ≤ m .method) × (m .method ≤ 0x1fc))) → ((o : Object) → Names t (m .parameter) o → Agrees) → Agrees
+  looked-up : ((m .method ≡ 0x00) ⊎ (m .method ≡ 0x60) ⊎ ((0x180 ≤ m .method) × (m .method ≤ 0x1fc))) → ((o : Object) → Names (l .table) (m .parameter) o → Agrees) → Agrees
   looked-up s named =
-      ⊎-elim (λ x. named (x .0) (x .1)) (λ none. said (λ Q q a b k. q .no-hash level p m t sems b a k s none)) (named-or-not t (m .parameter))
+      ⊎-elim (λ x. named (x .0) (x .1)) (λ none. said (λ Q q a b k. q .no-hash level p m l b a k s none)) (named-or-not (l .table) (m .parameter))
 
   bound : m .method ≡ 0x00 → Agrees
   bound e =
       looked-up (inl e)
       (λ o n.
-      by-cases (ℕ-discrete (o .engine) 0) (λ z. said (λ Q q a b k. q .bind-software level p m t sems b o a k e n z))
-      (λ some. said (λ Q q a b k. q .bind level p m t sems b o a k e n some)))
+      by-cases (ℕ-discrete (o .engine) 0) (λ z. said (λ Q q a b k. q .bind-software level p m l b o a k e n z))
+      (λ some. said (λ Q q a b k. q .bind level p m l b o a k e n some)))
 
   semaphore-bound : m .method ≡ 0x60 → Agrees
   semaphore-bound e =
       looked-up (inr (inl e))
       (λ o n.
-      ⊎-elim (λ u. said (λ Q q a b k. q .dma-unfit level p m t sems b o a k e n u))
-      (λ u. said (λ Q q a b k. q .dma level p m t sems b o a k e n u)) (unfit-or-not level o))
+      ⊎-elim (λ u. said (λ Q q a b k. q .dma-unfit level p m l b o a k e n u))
+      (λ u. said (λ Q q a b k. q .dma level p m l b o a k e n u)) (unfit-or-not level o))
 
   object-forwarded : 0x180 ≤ m .method → m .method ≤ 0x1fc → Agrees
-  object-forwarded l g =
-      looked-up (inr (inr (l, g)))
+  object-forwarded v g =
+      looked-up (inr (inr (v, g)))
       (λ o n.
-      by-cases (ℕ-discrete (engineOf p (m .subchannel)) 0) (λ z. said (λ Q q a b k. q .object-software level p m t sems b o a k l g n z))
-      (λ some. said (λ Q q a b k. q .object level p m t sems b o a k l g n some)))
+      by-cases (ℕ-discrete (engineOf p (m .subchannel)) 0) (λ z. said (λ Q q a b k. q .object-software level p m l b o a k v g n z))
+      (λ some. said (λ Q q a b k. q .object level p m l b o a k v g n some)))
 
   forwarded : 0x100 ≤ m .method → ((m .method < 0x180) ⊎ (0x1fc < m .method)) → Agrees
-  forwarded l s =
-      by-cases (ℕ-discrete (engineOf p (m .subchannel)) 0) (λ z. said (λ Q q a b k. q .forward-software level p m t sems b a k l s z))
-      (λ some. said (λ Q q a b k. q .forward level p m t sems b a k l s some))
+  forwarded v s =
+      by-cases (ℕ-discrete (engineOf p (m .subchannel)) 0) (λ z. said (λ Q q a b k. q .forward-software level p m l b a k v s z))
+      (λ some. said (λ Q q a b k. q .forward level p m l b a k v s some))
 
   -- an offset, by the level and the parameter's bits
   offset-taken : m .method ≡ 0x64 → Agrees
   offset-taken e = by-cases (decLt (level .number) 4) below-4 (λ n. from-4 (omega arith))
     where
       below-4 : level .number < 4 → Agrees
-      below-4 l =
+      below-4 v =
           by-cases (ℕ-discrete (m .parameter % 4) 0)
           (λ low.
-          by-cases (ℕ-discrete (m .parameter / 2 ^ 12 % 2 ^ 20) 0) (λ high. said (λ Q q a b k. q .offset-below-4 level p m t sems b a k e l low high))
-          (λ high. said (λ Q q a b k. q .offset-outside level p m t sems b a k e l (inr high))))
-          (λ low. said (λ Q q a b k. q .offset-outside level p m t sems b a k e l (inl low)))
+          by-cases (ℕ-discrete (m .parameter / 2 ^ 12 % 2 ^ 20) 0) (λ high. said (λ Q q a b k. q .offset-below-4 level p m l b a k e v low high))
+          (λ high. said (λ Q q a b k. q .offset-outside level p m l b a k e v (inr high))))
+          (λ low. said (λ Q q a b k. q .offset-outside level p m l b a k e v (inl low)))
 
       from-4 : 4 ≤ level .number → Agrees
-      from-4 l =
+      from-4 v =
           by-cases (ℕ-discrete (m .parameter % 4) 0)
           (λ low.
-          by-cases (ℕ-discrete (m .parameter / 2 ^ 16 % 2 ^ 16) 0) (λ high. said (λ Q q a b k. q .offset-from-4 level p m t sems b a k e l low high))
-          (λ high. said (λ Q q a b k. q .offset-too-large level p m t sems b a k e l low high)))
-          (λ low. said (λ Q q a b k. q .offset-unaligned level p m t sems b a k e l low))
+          by-cases (ℕ-discrete (m .parameter / 2 ^ 16 % 2 ^ 16) 0) (λ high. said (λ Q q a b k. q .offset-from-4 level p m l b a k e v low high))
+          (λ high. said (λ Q q a b k. q .offset-too-large level p m l b a k e v low high)))
+          (λ low. said (λ Q q a b k. q .offset-unaligned level p m l b a k e v low))
 
   -- an acquire or a release, where there is a word for it
-  accessed : ((m .method ≡ 0x68) ⊎ (m .method ≡ 0x6c)) → (Ready level p → Inside p sems → Agrees) → Agrees
+  accessed : ((m .method ≡ 0x68) ⊎ (m .method ≡ 0x6c)) → (Ready level p → Inside p (l .semaphores) → Agrees) → Agrees
   accessed s there =
-      ⊎-elim (λ u. said (λ Q q a b k. q .unready level p m t sems b a k s u))
+      ⊎-elim (λ u. said (λ Q q a b k. q .unready level p m l b a k s u))
       (λ ready.
-      by-cases (decLt (p .semaphore .offset / 4) (length sems)) (there ready)
-      (λ n. said (λ Q q a b k. q .past-end level p m t sems b (pastEnd (level .number)) a k s ready (past-end-of level p sems (omega arith)))))
+      by-cases (decLt (p .semaphore .offset / 4) (length (l .semaphores))) (there ready)
+      (λ n. said (λ Q q a b k. q .past-end level p m l b (pastEnd (level .number)) a k s ready (past-end-of level p (l .semaphores) (omega arith)))))
       (ready-or-not level p)
 
   acquired : m .method ≡ 0x68 → Agrees
   acquired e =
       accessed (inl e)
       (λ ready inside.
-      by-cases (ℕ-discrete (wordIn p sems) (m .parameter)) (λ same. said (λ Q q a b k. q .acquire level p m t sems b a k e ready inside same))
-      (λ other. said (λ Q q a b k. q .wait level p m t sems b a k e ready inside other)))
+      by-cases (ℕ-discrete (wordIn p (l .semaphores)) (m .parameter)) (λ same. said (λ Q q a b k. q .acquire level p m l b a k e ready inside same))
+      (λ other. said (λ Q q a b k. q .wait level p m l b a k e ready inside other)))
 
   released : m .method ≡ 0x6c → Agrees
-  released e = accessed (inr e) (λ ready inside. said (λ Q q a b k. q .release level p m t sems b a k e ready inside))
+  released e = accessed (inr e) (λ ready inside. said (λ Q q a b k. q .release level p m l b a k e ready inside))
 
   -- below 0x100 each method that has a sentence of its own, and the others; above, the range that is looked up
   special : m .method < 0x100 → Agrees
-  special l =
+  special v =
       by-cases (ℕ-discrete (m .method) 0x00) bound
       (λ not-bind.
-      by-cases (ℕ-discrete (m .method) 0x50) (λ e. said (λ Q q a b k. q .ref level p m t sems b a k e))
+      by-cases (ℕ-discrete (m .method) 0x50) (λ e. said (λ Q q a b k. q .ref level p m l b a k e))
       (λ not-ref.
       by-cases (ℕ-discrete (m .method) 0x60) semaphore-bound
       (λ not-dma.
@@ -199,29 +199,29 @@ module _ (R : Relation) (h : Sentences R) (level : Level) (p : Puller) (m : Meth
       (λ not-acquire.
       by-cases (ℕ-discrete (m .method) 0x6c) released
       (λ not-release.
-      by-cases (ℕ-discrete (m .method) 0x80) (λ e. said (λ Q q a b k. q .event level p m t sems b a k (inl e)))
+      by-cases (ℕ-discrete (m .method) 0x80) (λ e. said (λ Q q a b k. q .event level p m l b a k (inl e)))
       (λ not-yield.
-      ⊎-elim (λ e. said (λ Q q a b k. q .event level p m t sems b a k (inr e)))
+      ⊎-elim (λ e. said (λ Q q a b k. q .event level p m l b a k (inr e)))
       (λ s.
-      let u : Unnamed (m .method) = record { special = l; not-bind = not-bind; not-ref = not-ref; not-dma = not-dma; not-offset = not-offset; not-acquire = not-acquire; not-release = not-release; not-yield = not-yield; not-logged = s } in
-      said (λ Q q a b k. q .unnamed level p m t sems b a k u)) (logged-or-not (m .method)))))))))
+      let u : Unnamed (m .method) = record { special = v; not-bind = not-bind; not-ref = not-ref; not-dma = not-dma; not-offset = not-offset; not-acquire = not-acquire; not-release = not-release; not-yield = not-yield; not-logged = s } in
+      said (λ Q q a b k. q .unnamed level p m l b a k u)) (logged-or-not (m .method)))))))))
 
   ordinary : 0x100 ≤ m .method → Agrees
-  ordinary l =
-      by-cases (decLt (m .method) 0x180) (λ b. forwarded l (inl b))
-      (λ n. by-cases (decLt 0x1fc (m .method)) (λ a. forwarded l (inr a)) (λ o. object-forwarded (omega arith) (omega arith)))
+  ordinary v =
+      by-cases (decLt (m .method) 0x180) (λ b. forwarded v (inl b))
+      (λ n. by-cases (decLt 0x1fc (m .method)) (λ a. forwarded v (inr a)) (λ o. object-forwarded (omega arith) (omega arith)))
 
 pub no-other : NoOther
-no-other R h level p m t sems exit r k =
-    by-cases (decLt (m .method) 0x100) (special R h level p m t sems exit r k) (λ n. ordinary R h level p m t sems exit r k (omega arith))
+no-other R h level p m l exit r k =
+    by-cases (decLt (m .method) 0x100) (special R h level p m l exit r k) (λ n. ordinary R h level p m l exit r k (omega arith))
 
 pub retrying : Retrying
 unfolding retryOf
 retrying =
     record {
-      past-end = λ level p sems e r k h. k ∙ choose-true (le-leb _ _ (h .past)) _ _ ∙ rw (past-end-is level p sems e h);
-      equal = λ level p sems r k inside same. k ∙ choose-false (lt-leb _ _ inside) _ _ ∙ choose-true (eq-eqb _ _ same) _ _;
-      unequal = λ level p sems r k inside other. k ∙ choose-false (lt-leb _ _ inside) _ _ ∙ choose-false (ne-eqb _ _ other) _ _;
+      past-end = λ level p sems e r k h. k ∙ tried-past level p (p .acquire .value) sems _ _ e h;
+      equal = λ level p sems r k inside same. k ∙ tried-equal level p (p .acquire .value) sems _ _ inside same;
+      unequal = λ level p sems r k inside other. k ∙ tried-unequal level p (p .acquire .value) sems _ _ inside other;
     }
 
 pub one : One
@@ -231,6 +231,6 @@ one =
       first-repeat = λ t a b x y. one-outcome x y;
       number = λ e a b x y. one-outcome x y;
       stopped = λ p a b x y. one-outcome x y;
-      take = λ level p m t sems a b v w x y. (one-outcome (x .answer) (y .answer), one-outcome (x .memory) (y .memory));
+      take = λ level p m l a b v w x y. (one-outcome (x .answer) (y .answer), one-outcome (x .memory) (y .memory));
       retry = λ level p sems a b x y. one-outcome x y;
     }

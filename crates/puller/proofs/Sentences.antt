@@ -9,16 +9,16 @@ use native.Mathlib.Omega.{arith}
 use lib.Dec.{eqb}
 use lib.ListN.{length, set}
 use borrow.Author.Tests.{lt-ltb, le-ltb, le-leb, lt-leb, eq-eqb, ne-eqb, ltb-true, ltb-false, not-true}
-use Rattle.word.specs.First.{choose}
 use Rattle.word.specs.Parts.{bits}
 use Rattle.word.specs.declared.setting.Level.{Level}
 use Rattle.word.proofs.First.{choose-true, choose-false, by-test}
 use Rattle.word.proofs.Tests.{not-plain, or-plain, and-plain, less-plain, equal-plain}
 use Rattle.event.specs.declared.Kind.the-variants as kind
 use Rattle.event.specs.declared.Method.{Method}
+use Rattle.puller.specs.Loan.{PullerLoan}
 use Rattle.puller.specs.Object.{lookupOf}
 use Rattle.puller.specs.Record.{engineOf, withEngine, withLast, withAcquire, withDma, withOffset}
-use Rattle.puller.specs.Taking.{doneWith, failedBy, lookingUp, bindTo, bindOf, unfitFor, dmaTo, dmaOf, offsetOf, unreadyAt, isPast, pastEnd, acquireOf, forwardOf, forwardObjectOf, releaseOf, Deed, deedOf, act, takeOf}
+use Rattle.puller.specs.Taking.{doneWith, failedBy, lookingUp, bindTo, bindOf, unfitFor, dmaTo, dmaOf, offsetOf, unreadyAt, placeOf, pastEnd, trialOf, tried, acquireOf, forwardOf, forwardObjectOf, unwritten, releaseOf, Deed, deedOf, act, takeOf}
 use Rattle.puller.specs.Contracts.{Takes}
 use Rattle.puller.specs.Promises.{Names, NamesNone, Unready, Ready, Inside, PastEnd, wordIn, Unfit}
 use Rattle.puller.specs.declared.object.Object.{Object}
@@ -30,17 +30,17 @@ use Rattle.puller.proofs.Table.{named-is, unnamed-is}
 
 -- what is taken is what the method's deed says
 pub taken-as :
-    {level : Level} {p : Puller} {m : Method} {t sems : List ℕ} {r : Taken} {exit : List ℕ} (d : Deed)
-    → Takes level p m t sems r exit
+    {level : Level} {p : Puller} {m : Method} {l : PullerLoan} {r : Taken} {exit : List ℕ} (d : Deed)
+    → Takes level p m l r exit
     → deedOf (m .method) ≡ d
     → {x : Taken} {y : List ℕ}
-    → act (level .number) p m t sems d .taken ≡ x
-    → act (level .number) p m t sems d .memory ≡ y
+    → act (level .number) p m l d .taken ≡ x
+    → act (level .number) p m l d .memory ≡ y
     → (r ≡ x) × (exit ≡ y)
 unfolding takeOf
-taken-as {level} {p} {m} {t} {sems} d k e f g = (
-  k .answer ∙ ap (λ (a : Deed). act (level .number) p m t sems a .taken) e ∙ f,
-  k .memory ∙ ap (λ (a : Deed). act (level .number) p m t sems a .memory) e ∙ g,
+taken-as {level} {p} {m} {l} d k e f g = (
+  k .answer ∙ ap (λ (a : Deed). act (level .number) p m l a .taken) e ∙ f,
+  k .memory ∙ ap (λ (a : Deed). act (level .number) p m l a .memory) e ∙ g,
 )
 
 -- an object looked up, or none
@@ -173,7 +173,7 @@ module _ (level : Level) (p : Puller) where
       from-4 l false e = inl (inr (l, e))
 
   module _ (sems : List ℕ) where
-    pub past-end-is : (e : PullerError) → PastEnd level p sems e → pastEnd (level .number) ≡ e
+    past-end-is : (e : PullerError) → PastEnd level p sems e → pastEnd (level .number) ≡ e
     unfolding pastEnd
     past-end-is e h = by-test (λ (x : PullerError). x ≡ e) (λ l. sym (h .below-4 (ltb-true _ _ l))) (λ l. sym (h .from-4 (ltb-false _ _ l)))
 
@@ -186,50 +186,57 @@ module _ (level : Level) (p : Puller) where
           from-4 = λ b. choose-false (le-ltb _ _ b) _ _;
         }
 
-    -- both go by the same two tests, to no semaphore, past the end, and the word
-    module _ {A : Type 0} (x y z : A) where
-      abbrev tested : A
-      tested = choose (unreadyAt (level .number) p) x (choose (isPast p sems) y z)
+-- an acquire, the first time and at a retry: past the end, and the two ways that it has
+module _ (level : Level) (p : Puller) (value : ℕ) (sems : List ℕ) (passes waits : Taken) where
+  abbrev Comes : Taken → Type 0
+  Comes r = tried (level .number) p (trialOf (placeOf p) value sems) passes waits ≡ r
 
-      to-unready : Unready level p → tested ≡ x
-      to-unready u = choose-true (unready-is u) _ _
+  pub tried-past : (e : PullerError) → PastEnd level p sems e → Comes (failedBy p e)
+  unfolding trialOf tried
+  tried-past e h = rw (choose-true (le-leb _ _ (h .past))) (ap (failedBy p) (past-end-is level p sems e h))
 
-      to-past : Ready level p → length sems ≤ p .semaphore .offset / 4 → tested ≡ y
-      to-past r l = choose-false (ready-is r) _ _ ∙ choose-true (le-leb _ _ l) _ _
+  module _ (inside : Inside p sems) where
+    pub tried-equal : wordIn p sems ≡ value → Comes passes
+    unfolding trialOf tried
+    tried-equal e = rw (choose-false (lt-leb _ _ inside), choose-true (eq-eqb _ _ e))
 
-      to-word : Ready level p → Inside p sems → tested ≡ z
-      to-word r l = choose-false (ready-is r) _ _ ∙ choose-false (lt-leb _ _ l) _ _
+    pub tried-unequal : (wordIn p sems ≡ value → ⊥) → Comes waits
+    unfolding trialOf tried
+    tried-unequal n = rw (choose-false (lt-leb _ _ inside), choose-false (ne-eqb _ _ n))
 
 module _ (level : Level) (p : Puller) (m : Method) (sems : List ℕ) where
   pub acquire-unready : Unready level p → acquireOf (level .number) p m sems ≡ failedBy p cause.Semaphore2
   unfolding acquireOf
-  acquire-unready u = to-unready level p sems _ _ _ u
+  acquire-unready u = choose-true (unready-is level p u) _ _
 
-  pub release-unready : Unready level p → releaseOf (level .number) p m sems ≡ record { taken = failedBy p cause.Semaphore2; memory = sems }
+  pub release-unready : Unready level p → releaseOf (level .number) p m sems ≡ unwritten sems (failedBy p cause.Semaphore2)
   unfolding releaseOf
-  release-unready u = to-unready level p sems _ _ _ u
+  release-unready u = choose-true (unready-is level p u) _ _
 
   module _ (ready : Ready level p) where
     pub acquire-past : (e : PullerError) → PastEnd level p sems e → acquireOf (level .number) p m sems ≡ failedBy p e
     unfolding acquireOf
-    acquire-past e h = to-past level p sems _ _ _ ready (h .past) ∙ rw (past-end-is level p sems e h)
+    acquire-past e h = choose-false (ready-is level p ready) _ _ ∙ tried-past level p (m .parameter) sems _ _ e h
 
-    pub release-past : (e : PullerError) → PastEnd level p sems e → releaseOf (level .number) p m sems ≡ record { taken = failedBy p e; memory = sems }
+    pub release-past : (e : PullerError) → PastEnd level p sems e → releaseOf (level .number) p m sems ≡ unwritten sems (failedBy p e)
     unfolding releaseOf
-    release-past e h = to-past level p sems _ _ _ ready (h .past) ∙ rw (past-end-is level p sems e h)
+    release-past e h =
+        choose-false (ready-is level p ready) _ _
+        ∙ choose-true (le-leb _ _ (h .past)) _ _
+        ∙ ap (λ (x : PullerError). unwritten sems (failedBy p x)) (past-end-is level p sems e h)
 
     module _ (inside : Inside p sems) where
       pub acquire-is : wordIn p sems ≡ m .parameter → acquireOf (level .number) p m sems ≡ doneWith p kind.Acquire m (m .parameter)
       unfolding acquireOf
-      acquire-is e = to-word level p sems _ _ _ ready inside ∙ choose-true (eq-eqb _ _ e) _ _
+      acquire-is e = choose-false (ready-is level p ready) _ _ ∙ tried-equal level p (m .parameter) sems _ _ inside e
 
       pub wait-is : (wordIn p sems ≡ m .parameter → ⊥) → acquireOf (level .number) p m sems ≡ doneWith (withAcquire p true (m .parameter)) kind.Wait m (m .parameter)
       unfolding acquireOf
-      wait-is n = to-word level p sems _ _ _ ready inside ∙ choose-false (ne-eqb _ _ n) _ _
+      wait-is n = choose-false (ready-is level p ready) _ _ ∙ tried-unequal level p (m .parameter) sems _ _ inside n
 
       pub release-is : releaseOf (level .number) p m sems ≡ record { taken = doneWith p kind.Release m (m .parameter); memory = set sems (p .semaphore .offset / 4) (m .parameter) }
       unfolding releaseOf
-      release-is = to-word level p sems _ _ _ ready inside
+      release-is = choose-false (ready-is level p ready) _ _ ∙ choose-false (lt-leb _ _ inside) _ _
 
 -- 0x100 up
 module _ (p : Puller) (m : Method) (x : ℕ) where

@@ -5,6 +5,7 @@ use mathlib.Core.Bool.{Bool}
 use mathlib.Core.List.{List}
 use Rattle.word.specs.declared.setting.Level.{Level}
 use Rattle.event.specs.declared.Method.{Method}
+use Rattle.puller.specs.Loan.{PullerLoan}
 use Rattle.puller.specs.Object.{lookupOf, repeatOf}
 use Rattle.puller.specs.Record.{number, halts}
 use Rattle.puller.specs.Taking.{releaseOf, takeOf, retryOf}
@@ -29,10 +30,10 @@ Numbers e r = r ≡ number e
 abbrev pub Halts : Puller → Bool → Type 0
 Halts p r = r ≡ halts (p .error)
 
--- `take`, of a level, a puller, a method, a table and the semaphore memory at entry: what is taken, and the memory at exit
-pub record Takes (level : Level) (p : Puller) (m : Method) (t sems : List ℕ) (r : Taken) (exit : List ℕ) : Type 0 where
-  pub answer : r ≡ takeOf (level .number) p m t sems .taken
-  pub memory : exit ≡ takeOf (level .number) p m t sems .memory
+-- `take`, of a level, a puller, a method and what is lent at entry: what is taken, and the semaphore memory at exit
+pub record Takes (level : Level) (p : Puller) (m : Method) (l : PullerLoan) (r : Taken) (exit : List ℕ) : Type 0 where
+  pub answer : r ≡ takeOf (level .number) p m l .taken
+  pub memory : exit ≡ takeOf (level .number) p m l .memory
 
 -- the part of it that writes
 pub record Releases (level : ℕ) (p : Puller) (m : Method) (sems : List ℕ) (r : Taken) (exit : List ℕ) : Type 0 where

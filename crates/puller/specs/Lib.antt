@@ -1,5 +1,7 @@
 pub mod Object
 pub mod Record
+pub mod Loan
 pub mod Taking
 pub mod Contracts
 pub mod Promises
+pub mod Widths

@@ -10,7 +10,8 @@ use Rattle.word.specs.declared.setting.Level.{Level}
 use Rattle.event.specs.declared.Kind.the-variants as kind
 use Rattle.event.specs.declared.Method.{Method}
 use Rattle.event.specs.declared.Event.the-variants.{Plain}
-use Rattle.puller.specs.Record.{number, engineOf, withEngine, withLast, withReference, withDma, withOffset, withAcquire}
+use Rattle.puller.specs.Loan.{PullerLoan}
+use Rattle.puller.specs.Record.{number, engineOf, withEngine, withLast, withReference, withDma, withOffset, withAcquire, withoutAcquire}
 use Rattle.puller.specs.Taking.{doneWith, saying, failedBy}
 use Rattle.puller.specs.Contracts.{Finds, Repeats, Numbers, Halts, Takes, Retries}
 use Rattle.puller.specs.declared.object.Object.{Object}
@@ -106,178 +107,178 @@ pub record Unnamed (m : ℕ) : Type 0 where
 
 -- The sentences, of any relation R between what a puller is given with a method and what it leaves: what changes, and nothing
 -- else does. Where there is an error, "no semaphore word changes".
-pub record Sentences (R : Level → Puller → Method → List ℕ → List ℕ → Taken → List ℕ → Type 0) : Type 0 where
+pub record Sentences (R : Level → Puller → Method → PullerLoan → Taken → List ℕ → Type 0) : Type 0 where
   -- "0x00: lookup, bind the engine. ... Otherwise forward method 0 with the object address and make it the last engine."
   pub bind :
-      (level : Level) (p : Puller) (m : Method) (t sems exit : List ℕ) (o : Object) (r : Taken)
-      → R level p m t sems r exit
+      (level : Level) (p : Puller) (m : Method) (l : PullerLoan) (exit : List ℕ) (o : Object) (r : Taken)
+      → R level p m l r exit
       → m .method ≡ 0x00
-      → Names t (m .parameter) o
+      → Names (l .table) (m .parameter) o
       → (o .engine ≡ 0 → ⊥)
-      → (r ≡ doneWith (withLast (withEngine p (m .subchannel) (o .engine)) (o .engine)) kind.Bind m (o .address)) × (exit ≡ sems)
+      → (r ≡ doneWith (withLast (withEngine p (m .subchannel) (o .engine)) (o .engine)) kind.Bind m (o .address)) × (exit ≡ l .semaphores)
   -- "Engine 0 is SOFTWARE: the binding is stored, then EMPTY_SUBCHANNEL."
   pub bind-software :
-      (level : Level) (p : Puller) (m : Method) (t sems exit : List ℕ) (o : Object) (r : Taken)
-      → R level p m t sems r exit
+      (level : Level) (p : Puller) (m : Method) (l : PullerLoan) (exit : List ℕ) (o : Object) (r : Taken)
+      → R level p m l r exit
       → m .method ≡ 0x00
-      → Names t (m .parameter) o
+      → Names (l .table) (m .parameter) o
       → o .engine ≡ 0
-      → (r ≡ failedBy (withEngine p (m .subchannel) 0) cause.EmptySubchannel) × (exit ≡ sems)
+      → (r ≡ failedBy (withEngine p (m .subchannel) 0) cause.EmptySubchannel) × (exit ≡ l .semaphores)
   -- "none is CACHE_ERROR NO_HASH", at 0x00, 0x60 and 0x180 to 0x1fc
   pub no-hash :
-      (level : Level) (p : Puller) (m : Method) (t sems exit : List ℕ) (r : Taken)
-      → R level p m t sems r exit
+      (level : Level) (p : Puller) (m : Method) (l : PullerLoan) (exit : List ℕ) (r : Taken)
+      → R level p m l r exit
       → ((m .method ≡ 0x00) ⊎ (m .method ≡ 0x60) ⊎ ((0x180 ≤ m .method) × (m .method ≤ 0x1fc)))
-      → NamesNone t (m .parameter)
-      → (r ≡ failedBy p cause.NoHash) × (exit ≡ sems)
+      → NamesNone (l .table) (m .parameter)
+      → (r ≡ failedBy p cause.NoHash) × (exit ≡ l .semaphores)
   -- "0x50: ref takes the parameter."
   pub ref :
-      (level : Level) (p : Puller) (m : Method) (t sems exit : List ℕ) (r : Taken)
-      → R level p m t sems r exit
+      (level : Level) (p : Puller) (m : Method) (l : PullerLoan) (exit : List ℕ) (r : Taken)
+      → R level p m l r exit
       → m .method ≡ 0x50
-      → (r ≡ doneWith (withReference p (m .parameter)) kind.Ref m (m .parameter)) × (exit ≡ sems)
+      → (r ≡ doneWith (withReference p (m .parameter)) kind.Ref m (m .parameter)) × (exit ≡ l .semaphores)
   -- "0x80 and 0x10 to 0x24: an event, no effect."
   pub event :
-      (level : Level) (p : Puller) (m : Method) (t sems exit : List ℕ) (r : Taken)
-      → R level p m t sems r exit
+      (level : Level) (p : Puller) (m : Method) (l : PullerLoan) (exit : List ℕ) (r : Taken)
+      → R level p m l r exit
       → ((m .method ≡ 0x80) ⊎ ((0x10 ≤ m .method) × (m .method ≤ 0x24)))
-      → (r ≡ doneWith p kind.Event m (m .parameter)) × (exit ≡ sems)
+      → (r ≡ doneWith p kind.Event m (m .parameter)) × (exit ≡ l .semaphores)
   -- the methods below 0x100 that no level has, and no pusher submits
   pub unnamed :
-      (level : Level) (p : Puller) (m : Method) (t sems exit : List ℕ) (r : Taken)
-      → R level p m t sems r exit
+      (level : Level) (p : Puller) (m : Method) (l : PullerLoan) (exit : List ℕ) (r : Taken)
+      → R level p m l r exit
       → Unnamed (m .method)
-      → (r ≡ doneWith p kind.Event m (m .parameter)) × (exit ≡ sems)
+      → (r ≡ doneWith p kind.Event m (m .parameter)) × (exit ≡ l .semaphores)
   -- "0x60: lookup. Below level 4, class not 2, not write-only or page table absent: SEMAPHORE 1."
   pub dma-unfit :
-      (level : Level) (p : Puller) (m : Method) (t sems exit : List ℕ) (o : Object) (r : Taken)
-      → R level p m t sems r exit
+      (level : Level) (p : Puller) (m : Method) (l : PullerLoan) (exit : List ℕ) (o : Object) (r : Taken)
+      → R level p m l r exit
       → m .method ≡ 0x60
-      → Names t (m .parameter) o
+      → Names (l .table) (m .parameter) o
       → Unfit level o
-      → (r ≡ failedBy p cause.Semaphore1) × (exit ≡ sems)
+      → (r ≡ failedBy p cause.Semaphore1) × (exit ≡ l .semaphores)
   -- "The address is stored"
   pub dma :
-      (level : Level) (p : Puller) (m : Method) (t sems exit : List ℕ) (o : Object) (r : Taken)
-      → R level p m t sems r exit
+      (level : Level) (p : Puller) (m : Method) (l : PullerLoan) (exit : List ℕ) (o : Object) (r : Taken)
+      → R level p m l r exit
       → m .method ≡ 0x60
-      → Names t (m .parameter) o
+      → Names (l .table) (m .parameter) o
       → (Unfit level o → ⊥)
-      → (r ≡ doneWith (withDma p (o .address)) kind.Dma m (o .address)) × (exit ≡ sems)
+      → (r ≡ doneWith (withDma p (o .address)) kind.Dma m (o .address)) × (exit ≡ l .semaphores)
   -- "0x64: below level 4, any bit outside 0xffc: SEMAPHORE 1."
   pub offset-outside :
-      (level : Level) (p : Puller) (m : Method) (t sems exit : List ℕ) (r : Taken)
-      → R level p m t sems r exit
+      (level : Level) (p : Puller) (m : Method) (l : PullerLoan) (exit : List ℕ) (r : Taken)
+      → R level p m l r exit
       → m .method ≡ 0x64
       → level .number < 4
       → ((m .parameter % 4 ≡ 0 → ⊥) ⊎ (m .parameter / 2 ^ 12 % 2 ^ 20 ≡ 0 → ⊥))
-      → (r ≡ failedBy p cause.Semaphore1) × (exit ≡ sems)
+      → (r ≡ failedBy p cause.Semaphore1) × (exit ≡ l .semaphores)
   pub offset-below-4 :
-      (level : Level) (p : Puller) (m : Method) (t sems exit : List ℕ) (r : Taken)
-      → R level p m t sems r exit
+      (level : Level) (p : Puller) (m : Method) (l : PullerLoan) (exit : List ℕ) (r : Taken)
+      → R level p m l r exit
       → m .method ≡ 0x64
       → level .number < 4
       → m .parameter % 4 ≡ 0
       → m .parameter / 2 ^ 12 % 2 ^ 20 ≡ 0
-      → (r ≡ doneWith (withOffset p (m .parameter) (p .semaphore .valid)) kind.Offset m (m .parameter)) × (exit ≡ sems)
+      → (r ≡ doneWith (withOffset p (m .parameter) (p .semaphore .valid)) kind.Offset m (m .parameter)) × (exit ≡ l .semaphores)
   -- "From 4: low two bits, SEMAPHORE 1; then bits 31-16, SEMAPHORE 3; stored and valid."
   pub offset-unaligned :
-      (level : Level) (p : Puller) (m : Method) (t sems exit : List ℕ) (r : Taken)
-      → R level p m t sems r exit
+      (level : Level) (p : Puller) (m : Method) (l : PullerLoan) (exit : List ℕ) (r : Taken)
+      → R level p m l r exit
       → m .method ≡ 0x64
       → 4 ≤ level .number
       → (m .parameter % 4 ≡ 0 → ⊥)
-      → (r ≡ failedBy p cause.Semaphore1) × (exit ≡ sems)
+      → (r ≡ failedBy p cause.Semaphore1) × (exit ≡ l .semaphores)
   pub offset-too-large :
-      (level : Level) (p : Puller) (m : Method) (t sems exit : List ℕ) (r : Taken)
-      → R level p m t sems r exit
+      (level : Level) (p : Puller) (m : Method) (l : PullerLoan) (exit : List ℕ) (r : Taken)
+      → R level p m l r exit
       → m .method ≡ 0x64
       → 4 ≤ level .number
       → m .parameter % 4 ≡ 0
       → (m .parameter / 2 ^ 16 % 2 ^ 16 ≡ 0 → ⊥)
-      → (r ≡ failedBy p cause.Semaphore3) × (exit ≡ sems)
+      → (r ≡ failedBy p cause.Semaphore3) × (exit ≡ l .semaphores)
   pub offset-from-4 :
-      (level : Level) (p : Puller) (m : Method) (t sems exit : List ℕ) (r : Taken)
-      → R level p m t sems r exit
+      (level : Level) (p : Puller) (m : Method) (l : PullerLoan) (exit : List ℕ) (r : Taken)
+      → R level p m l r exit
       → m .method ≡ 0x64
       → 4 ≤ level .number
       → m .parameter % 4 ≡ 0
       → m .parameter / 2 ^ 16 % 2 ^ 16 ≡ 0
-      → (r ≡ doneWith (withOffset p (m .parameter) true) kind.Offset m (m .parameter)) × (exit ≡ sems)
+      → (r ≡ doneWith (withOffset p (m .parameter) true) kind.Offset m (m .parameter)) × (exit ≡ l .semaphores)
   -- "0x68 acquire, 0x6c release: below level 4 unbound, from 4 offset not valid: SEMAPHORE 2."
   pub unready :
-      (level : Level) (p : Puller) (m : Method) (t sems exit : List ℕ) (r : Taken)
-      → R level p m t sems r exit
+      (level : Level) (p : Puller) (m : Method) (l : PullerLoan) (exit : List ℕ) (r : Taken)
+      → R level p m l r exit
       → ((m .method ≡ 0x68) ⊎ (m .method ≡ 0x6c))
       → Unready level p
-      → (r ≡ failedBy p cause.Semaphore2) × (exit ≡ sems)
+      → (r ≡ failedBy p cause.Semaphore2) × (exit ≡ l .semaphores)
   -- "Past its end: SEMAPHORE 2 below level 4, 4 from there."
   pub past-end :
-      (level : Level) (p : Puller) (m : Method) (t sems exit : List ℕ) (e : PullerError) (r : Taken)
-      → R level p m t sems r exit
+      (level : Level) (p : Puller) (m : Method) (l : PullerLoan) (exit : List ℕ) (e : PullerError) (r : Taken)
+      → R level p m l r exit
       → ((m .method ≡ 0x68) ⊎ (m .method ≡ 0x6c))
       → Ready level p
-      → PastEnd level p sems e
-      → (r ≡ failedBy p e) × (exit ≡ sems)
+      → PastEnd level p (l .semaphores) e
+      → (r ≡ failedBy p e) × (exit ≡ l .semaphores)
   -- "Acquire goes on when equal,"
   pub acquire :
-      (level : Level) (p : Puller) (m : Method) (t sems exit : List ℕ) (r : Taken)
-      → R level p m t sems r exit
+      (level : Level) (p : Puller) (m : Method) (l : PullerLoan) (exit : List ℕ) (r : Taken)
+      → R level p m l r exit
       → m .method ≡ 0x68
       → Ready level p
-      → Inside p sems
-      → wordIn p sems ≡ m .parameter
-      → (r ≡ doneWith p kind.Acquire m (m .parameter)) × (exit ≡ sems)
+      → Inside p (l .semaphores)
+      → wordIn p (l .semaphores) ≡ m .parameter
+      → (r ≡ doneWith p kind.Acquire m (m .parameter)) × (exit ≡ l .semaphores)
   -- "else is active and waits, its value stored."
   pub wait :
-      (level : Level) (p : Puller) (m : Method) (t sems exit : List ℕ) (r : Taken)
-      → R level p m t sems r exit
+      (level : Level) (p : Puller) (m : Method) (l : PullerLoan) (exit : List ℕ) (r : Taken)
+      → R level p m l r exit
       → m .method ≡ 0x68
       → Ready level p
-      → Inside p sems
-      → (wordIn p sems ≡ m .parameter → ⊥)
-      → (r ≡ doneWith (withAcquire p true (m .parameter)) kind.Wait m (m .parameter)) × (exit ≡ sems)
+      → Inside p (l .semaphores)
+      → (wordIn p (l .semaphores) ≡ m .parameter → ⊥)
+      → (r ≡ doneWith (withAcquire p true (m .parameter)) kind.Wait m (m .parameter)) × (exit ≡ l .semaphores)
   -- "Release writes that word only."
   pub release :
-      (level : Level) (p : Puller) (m : Method) (t sems exit : List ℕ) (r : Taken)
-      → R level p m t sems r exit
+      (level : Level) (p : Puller) (m : Method) (l : PullerLoan) (exit : List ℕ) (r : Taken)
+      → R level p m l r exit
       → m .method ≡ 0x6c
       → Ready level p
-      → Inside p sems
-      → (r ≡ doneWith p kind.Release m (m .parameter)) × (exit ≡ set sems (p .semaphore .offset / 4) (m .parameter))
+      → Inside p (l .semaphores)
+      → (r ≡ doneWith p kind.Release m (m .parameter)) × (exit ≡ set (l .semaphores) (p .semaphore .offset / 4) (m .parameter))
   -- "0x100 up: ... Engine 0: EMPTY_SUBCHANNEL."
   pub forward-software :
-      (level : Level) (p : Puller) (m : Method) (t sems exit : List ℕ) (r : Taken)
-      → R level p m t sems r exit
+      (level : Level) (p : Puller) (m : Method) (l : PullerLoan) (exit : List ℕ) (r : Taken)
+      → R level p m l r exit
       → 0x100 ≤ m .method
       → ((m .method < 0x180) ⊎ (0x1fc < m .method))
       → engineOf p (m .subchannel) ≡ 0
-      → (r ≡ failedBy p cause.EmptySubchannel) × (exit ≡ sems)
+      → (r ≡ failedBy p cause.EmptySubchannel) × (exit ≡ l .semaphores)
   -- "Else forward, and the engine becomes last."
   pub forward :
-      (level : Level) (p : Puller) (m : Method) (t sems exit : List ℕ) (r : Taken)
-      → R level p m t sems r exit
+      (level : Level) (p : Puller) (m : Method) (l : PullerLoan) (exit : List ℕ) (r : Taken)
+      → R level p m l r exit
       → 0x100 ≤ m .method
       → ((m .method < 0x180) ⊎ (0x1fc < m .method))
       → (engineOf p (m .subchannel) ≡ 0 → ⊥)
-      → (r ≡ doneWith (withLast p (engineOf p (m .subchannel))) kind.Forward m (m .parameter)) × (exit ≡ sems)
+      → (r ≡ doneWith (withLast p (engineOf p (m .subchannel))) kind.Forward m (m .parameter)) × (exit ≡ l .semaphores)
   -- "for 0x180 to 0x1fc the parameter becomes the looked-up address first"
   pub object-software :
-      (level : Level) (p : Puller) (m : Method) (t sems exit : List ℕ) (o : Object) (r : Taken)
-      → R level p m t sems r exit
+      (level : Level) (p : Puller) (m : Method) (l : PullerLoan) (exit : List ℕ) (o : Object) (r : Taken)
+      → R level p m l r exit
       → 0x180 ≤ m .method
       → m .method ≤ 0x1fc
-      → Names t (m .parameter) o
+      → Names (l .table) (m .parameter) o
       → engineOf p (m .subchannel) ≡ 0
-      → (r ≡ failedBy p cause.EmptySubchannel) × (exit ≡ sems)
+      → (r ≡ failedBy p cause.EmptySubchannel) × (exit ≡ l .semaphores)
   pub object :
-      (level : Level) (p : Puller) (m : Method) (t sems exit : List ℕ) (o : Object) (r : Taken)
-      → R level p m t sems r exit
+      (level : Level) (p : Puller) (m : Method) (l : PullerLoan) (exit : List ℕ) (o : Object) (r : Taken)
+      → R level p m l r exit
       → 0x180 ≤ m .method
       → m .method ≤ 0x1fc
-      → Names t (m .parameter) o
+      → Names (l .table) (m .parameter) o
       → (engineOf p (m .subchannel) ≡ 0 → ⊥)
-      → (r ≡ doneWith (withLast p (engineOf p (m .subchannel))) kind.Forward m (o .address)) × (exit ≡ sems)
+      → (r ≡ doneWith (withLast p (engineOf p (m .subchannel))) kind.Forward m (o .address)) × (exit ≡ l .semaphores)
 
 -- Promise 2, for the puller: `take` does what the sentences say,
 abbrev pub Pulls : Type 0
@@ -286,11 +287,11 @@ Pulls = Sentences Takes
 -- and they leave no case open: whatever does what they say does what `take` does.
 abbrev pub NoOther : Type 1
 NoOther =
-    (R : Level → Puller → Method → List ℕ → List ℕ → Taken → List ℕ → Type 0)
+    (R : Level → Puller → Method → PullerLoan → Taken → List ℕ → Type 0)
     → Sentences R
-    → (level : Level) (p : Puller) (m : Method) (t sems exit : List ℕ) (r : Taken)
-    → R level p m t sems r exit
-    → Takes level p m t sems r exit
+    → (level : Level) (p : Puller) (m : Method) (l : PullerLoan) (exit : List ℕ) (r : Taken)
+    → R level p m l r exit
+    → Takes level p m l r exit
 
 -- "A retry makes only the end test and the comparison; equal clears active." It has no further fields.
 pub record Retrying : Type 0 where
@@ -300,7 +301,7 @@ pub record Retrying : Type 0 where
       → Retries level p sems r
       → Inside p sems
       → wordIn p sems ≡ p .acquire .value
-      → r ≡ saying (withAcquire p false (p .acquire .value)) kind.Acquire
+      → r ≡ saying (withoutAcquire p) kind.Acquire
   pub unequal :
       (level : Level) (p : Puller) (sems : List ℕ) (r : Taken)
       → Retries level p sems r
@@ -311,11 +312,11 @@ pub record Retrying : Type 0 where
 -- "Any puller error stops the channel; ... (a retry has none and stays active); no semaphore word changes."
 pub record Failing : Type 0 where
   pub take :
-      (level : Level) (p : Puller) (m : Method) (t sems exit : List ℕ) (r : Taken)
-      → Takes level p m t sems r exit
+      (level : Level) (p : Puller) (m : Method) (l : PullerLoan) (exit : List ℕ) (r : Taken)
+      → Takes level p m l r exit
       → number (p .error) ≡ 0
       → (number (r .puller .error) ≡ 0 → ⊥)
-      → (r .event ≡ Plain kind.Error) × (exit ≡ sems)
+      → (r .event ≡ Plain kind.Error) × (exit ≡ l .semaphores)
   pub retry :
       (level : Level) (p : Puller) (sems : List ℕ) (r : Taken)
       → Retries level p sems r
@@ -330,8 +331,8 @@ pub record One : Type 0 where
   pub number : (e : PullerError) (a b : ℕ) → Numbers e a → Numbers e b → a ≡ b
   pub stopped : (p : Puller) (a b : Bool) → Halts p a → Halts p b → a ≡ b
   pub take :
-      (level : Level) (p : Puller) (m : Method) (t sems : List ℕ) (a b : Taken) (x y : List ℕ)
-      → Takes level p m t sems a x
-      → Takes level p m t sems b y
+      (level : Level) (p : Puller) (m : Method) (l : PullerLoan) (a b : Taken) (x y : List ℕ)
+      → Takes level p m l a x
+      → Takes level p m l b y
       → (a ≡ b) × (x ≡ y)
   pub retry : (level : Level) (p : Puller) (sems : List ℕ) (a b : Taken) → Retries level p sems a → Retries level p sems b → a ≡ b

@@ -1,6 +1,6 @@
 -- The puller's record: its errors' numbers, and the record with one thing changed.
 use Prim.Native.Nat.{ℕ}
-use mathlib.Core.Bool.{Bool, not}
+use mathlib.Core.Bool.{Bool, false, not}
 use lib.Dec.{eqb}
 use lib.ListN.{getD, set}
 use Rattle.puller.specs.declared.record.PullerError.{PullerError}
@@ -48,5 +48,9 @@ withDma p a = withSemaphore p (record { dma = a; offset = p .semaphore .offset; 
 abbrev pub withOffset : Puller → ℕ → Bool → Puller
 withOffset p x valid = withSemaphore p (record { dma = p .semaphore .dma; offset = x; valid = valid })
 
+-- its acquire active or not, with a value; and active no longer, the value left
 abbrev pub withAcquire : Puller → Bool → ℕ → Puller
 withAcquire p a v = record { engines = p .engines; last = p .last; reference = p .reference; semaphore = p .semaphore; acquire = record { active = a; value = v }; error = p .error }
+
+abbrev pub withoutAcquire : Puller → Puller
+withoutAcquire p = withAcquire p false (p .acquire .value)

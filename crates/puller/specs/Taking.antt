@@ -11,7 +11,8 @@ use Rattle.event.specs.declared.Kind.the-variants as kind
 use Rattle.event.specs.declared.Method.{Method}
 use Rattle.event.specs.declared.Event.the-variants.{Plain, Of}
 use Rattle.puller.specs.Object.{lookupOf}
-use Rattle.puller.specs.Record.{withError, engineOf, withEngine, withLast, withReference, withDma, withOffset, withAcquire}
+use Rattle.puller.specs.Loan.{PullerLoan}
+use Rattle.puller.specs.Record.{withError, engineOf, withEngine, withLast, withReference, withDma, withOffset, withAcquire, withoutAcquire}
 use Rattle.puller.specs.declared.object.Object.{Object}
 use Rattle.puller.specs.declared.object.Found.{Found}
 use Rattle.puller.specs.declared.object.Found.the-variants as found
@@ -19,6 +20,8 @@ use Rattle.puller.specs.declared.record.PullerError.{PullerError}
 use Rattle.puller.specs.declared.record.PullerError.the-variants as cause
 use Rattle.puller.specs.declared.record.Puller.{Puller}
 use Rattle.puller.specs.declared.taking.Taken.{Taken}
+use Rattle.puller.specs.declared.taking.Trial.{Trial}
+use Rattle.puller.specs.declared.taking.Trial.the-variants as trial
 
 -- What a method is to the puller.
 pub data Deed : Type 0 where
@@ -120,30 +123,38 @@ abbrev pub placeOf : Puller → ℕ
 placeOf p = p .semaphore .offset / 4
 
 -- "Past its end: SEMAPHORE 2 below level 4, 4 from there."
-abbrev pub isPast : Puller → List ℕ → Bool
-isPast p sems = leb (length sems) (placeOf p)
+abbrev pub isPast : ℕ → List ℕ → Bool
+isPast place sems = leb (length sems) place
 
 unfoldable pub pastEnd : ℕ → PullerError
 pastEnd level = choose (ltb level 4) cause.Semaphore2 cause.Semaphore4
 
--- "Acquire goes on when equal"
-abbrev pub passes : Puller → List ℕ → ℕ → Bool
-passes p sems value = eqb (getD sems (placeOf p) 0) value
+-- What an acquire of a value comes to at a place of the memory: there is no such word, it "goes on when equal", or it waits.
+unfoldable pub trialOf : ℕ → ℕ → List ℕ → Trial
+trialOf place value sems =
+    choose (isPast place sems) trial.Outside
+    (choose (eqb (getD sems place 0) value) trial.Passes trial.Waits)
+
+-- it goes by that the first time and at each retry: past the end it fails, else there are two ways to go
+unfoldable pub tried : ℕ → Puller → Trial → Taken → Taken → Taken
+tried level p trial.Outside passes waits = failedBy p (pastEnd level)
+tried level p trial.Passes passes waits = passes
+tried level p trial.Waits passes waits = waits
 
 -- "else is active and waits, its value stored"
 unfoldable pub acquireOf : ℕ → Puller → Method → List ℕ → Taken
 acquireOf level p m sems =
     choose (unreadyAt level p) (failedBy p cause.Semaphore2)
-    (choose (isPast p sems) (failedBy p (pastEnd level))
-    (choose (passes p sems (m .parameter)) (doneWith p kind.Acquire m (m .parameter))
-    (doneWith (withAcquire p true (m .parameter)) kind.Wait m (m .parameter))))
+    (tried level p (trialOf (placeOf p) (m .parameter) sems)
+    (doneWith p kind.Acquire m (m .parameter))
+    (doneWith (withAcquire p true (m .parameter)) kind.Wait m (m .parameter)))
 
 -- "A retry makes only the end test and the comparison; equal clears active." A retry has no further fields.
 unfoldable pub retryOf : ℕ → Puller → List ℕ → Taken
 retryOf level p sems =
-    choose (isPast p sems) (failedBy p (pastEnd level))
-    (choose (passes p sems (p .acquire .value)) (saying (withAcquire p false (p .acquire .value)) kind.Acquire)
-    (saying p kind.Wait))
+    tried level p (trialOf (placeOf p) (p .acquire .value) sems)
+    (saying (withoutAcquire p) kind.Acquire)
+    (saying p kind.Wait)
 
 -- "Engine 0: EMPTY_SUBCHANNEL. Else forward, and the engine becomes last."
 unfoldable pub forwardOf : Puller → Method → ℕ → Taken
@@ -159,24 +170,28 @@ pub record Result : Type 0 where
   pub taken : Taken
   pub memory : List ℕ
 
+-- the memory as it was
+abbrev pub unwritten : List ℕ → Taken → Result
+unwritten sems t = record { taken = t; memory = sems }
+
 -- "Release writes that word only."
 unfoldable pub releaseOf : ℕ → Puller → Method → List ℕ → Result
 releaseOf level p m sems =
-    choose (unreadyAt level p) (record { taken = failedBy p cause.Semaphore2; memory = sems })
-    (choose (isPast p sems) (record { taken = failedBy p (pastEnd level); memory = sems })
+    choose (unreadyAt level p) (unwritten sems (failedBy p cause.Semaphore2))
+    (choose (isPast (placeOf p) sems) (unwritten sems (failedBy p (pastEnd level)))
     (record { taken = doneWith p kind.Release m (m .parameter); memory = set sems (placeOf p) (m .parameter) }))
 
 -- every other method leaves the memory
-unfoldable pub act : ℕ → Puller → Method → List ℕ → List ℕ → Deed → Result
-act level p m t sems binds = record { taken = bindOf p m t; memory = sems }
-act level p m t sems refers = record { taken = refOf p m; memory = sems }
-act level p m t sems logs = record { taken = doneWith p kind.Event m (m .parameter); memory = sems }
-act level p m t sems bindsSemaphore = record { taken = dmaOf level p m t; memory = sems }
-act level p m t sems offsets = record { taken = offsetOf level p m; memory = sems }
-act level p m t sems acquires = record { taken = acquireOf level p m sems; memory = sems }
-act level p m t sems releases = releaseOf level p m sems
-act level p m t sems forwards = record { taken = forwardOf p m (m .parameter); memory = sems }
-act level p m t sems looksAndForwards = record { taken = forwardObjectOf p m t; memory = sems }
+unfoldable pub act : ℕ → Puller → Method → PullerLoan → Deed → Result
+act level p m l binds = unwritten (l .semaphores) (bindOf p m (l .table))
+act level p m l refers = unwritten (l .semaphores) (refOf p m)
+act level p m l logs = unwritten (l .semaphores) (doneWith p kind.Event m (m .parameter))
+act level p m l bindsSemaphore = unwritten (l .semaphores) (dmaOf level p m (l .table))
+act level p m l offsets = unwritten (l .semaphores) (offsetOf level p m)
+act level p m l acquires = unwritten (l .semaphores) (acquireOf level p m (l .semaphores))
+act level p m l releases = releaseOf level p m (l .semaphores)
+act level p m l forwards = unwritten (l .semaphores) (forwardOf p m (m .parameter))
+act level p m l looksAndForwards = unwritten (l .semaphores) (forwardObjectOf p m (l .table))
 
-unfoldable pub takeOf : ℕ → Puller → Method → List ℕ → List ℕ → Result
-takeOf level p m t sems = act level p m t sems (deedOf (m .method))
+unfoldable pub takeOf : ℕ → Puller → Method → PullerLoan → Result
+takeOf level p m l = act level p m l (deedOf (m .method))

@@ -1,6 +1,7 @@
 // One method taken by the puller, and one retry of an active acquire.
 ghost use mathlib.Core.Path.{_≡_};
-ghost use Rattle.puller.specs.Taking.{doneWith, failedBy, bindOf, refOf, dmaOf, unfitFor, offsetOf, unreadyAt, placeOf, pastEnd, acquireOf, forwardObjectOf, forwardOf};
+ghost use Rattle.puller.specs.Loan.{toPuller};
+ghost use Rattle.puller.specs.Taking.{doneWith, failedBy, bindOf, refOf, dmaOf, unfitFor, offsetOf, unreadyAt, placeOf, pastEnd, trialOf, acquireOf, forwardObjectOf, forwardOf};
 ghost use Rattle.puller.specs.Record.{withEngine, engineOf};
 ghost use Rattle.puller.specs.Contracts.{Takes, Retries, Releases};
 use crate::object::Found;
@@ -19,6 +20,13 @@ pub struct Taken {
     pub event: Event,
 }
 
+// What an acquire comes to: there is no such word, it goes on, or it waits.
+enum Trial {
+    Outside,
+    Passes,
+    Waits,
+}
+
 // Takes a method at a level. Those below 0x100 that no level has are never submitted; handed in,
 // they have no effect.
 pub fn take(
@@ -28,7 +36,7 @@ pub fn take(
     table: &[u32],
     semaphores: &mut [u32],
 ) -> Taken
-    ensures { λ r. ⌜ Takes level puller method (now (table .entry)) (now (semaphores .entry)) r (now (semaphores .exit)) ⌝ }
+    ensures { λ r. ⌜ Takes level puller method (toPuller (now (table .entry)) (now (semaphores .entry))) r (now (semaphores .exit)) ⌝ }
 {
     let number = method.method;
     match number {
@@ -50,23 +58,22 @@ pub fn take(
 pub fn retry(level: Level, puller: Puller, semaphores: &[u32]) -> Taken
     ensures { λ r. ⌜ Retries level puller (now (semaphores .entry)) r ⌝ }
 {
-    let place = place(puller);
-    if semaphores.len() <= place {
-        return failed(puller, past_end(level));
-    }
-    if semaphores[place] == puller.acquire.value {
-        let mut next = puller;
-        next.acquire.active = false;
-        return Taken {
-            puller: next,
-            event: Event::Plain {
-                kind: Kind::Acquire,
-            },
-        };
-    }
-    Taken {
-        puller,
-        event: Event::Plain { kind: Kind::Wait },
+    match trial_of(semaphores, place(puller), puller.acquire.value) {
+        Trial::Outside => failed(puller, past_end(level)),
+        Trial::Passes => {
+            let mut next = puller;
+            next.acquire.active = false;
+            Taken {
+                puller: next,
+                event: Event::Plain {
+                    kind: Kind::Acquire,
+                },
+            }
+        }
+        Trial::Waits => Taken {
+            puller,
+            event: Event::Plain { kind: Kind::Wait },
+        },
     }
 }
 
@@ -218,24 +225,35 @@ fn past_end(level: Level) -> PullerError
     }
 }
 
+// What an acquire of a value comes to at a place of the memory.
+fn trial_of(semaphores: &[u32], place: usize, value: u32) -> Trial
+    ensures { λ r. ⌜ r ≡ trialOf place value (now (semaphores .entry)) ⌝ }
+{
+    if semaphores.len() <= place {
+        return Trial::Outside;
+    }
+    if semaphores[place] == value {
+        return Trial::Passes;
+    }
+    Trial::Waits
+}
+
 fn acquire(level: Level, puller: Puller, method: Method, semaphores: &[u32]) -> Taken
     ensures { λ r. ⌜ r ≡ acquireOf (level .number) puller method (now (semaphores .entry)) ⌝ }
 {
     if unready(level, puller) {
         return failed(puller, PullerError::Semaphore2);
     }
-    let place = place(puller);
-    if semaphores.len() <= place {
-        return failed(puller, past_end(level));
+    match trial_of(semaphores, place(puller), method.parameter) {
+        Trial::Outside => failed(puller, past_end(level)),
+        Trial::Passes => done(puller, Kind::Acquire, method),
+        Trial::Waits => {
+            let mut next = puller;
+            next.acquire.active = true;
+            next.acquire.value = method.parameter;
+            done(next, Kind::Wait, method)
+        }
     }
-    let value = method.parameter;
-    if semaphores[place] == value {
-        return done(puller, Kind::Acquire, method);
-    }
-    let mut next = puller;
-    next.acquire.active = true;
-    next.acquire.value = value;
-    done(next, Kind::Wait, method)
 }
 
 fn release(level: Level, puller: Puller, method: Method, semaphores: &mut [u32]) -> Taken

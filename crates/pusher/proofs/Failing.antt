@@ -2,11 +2,11 @@
 use Prim.Native.Nat.{ℕ, _≤_}
 use mathlib.Core.Path.{_≡_, refl, sym, ap, _∙_}
 use mathlib.Core.Bool.{Bool, true, false, false≢true}
-use mathlib.Core.List.{List}
 use native.Mathlib.Omega.{arith}
 use Rattle.word.specs.declared.reading.Reading.{Reading}
 use Rattle.word.specs.declared.reading.Reading.the-variants.{Increasing, NonIncreasing, Sli, Return, Long, OldJump, Jump, Call, Reserved, Refused}
 use Rattle.word.proofs.First.{by-test}
+use Rattle.pusher.specs.Loan.{PusherLoan}
 use Rattle.pusher.specs.Record.{number}
 use Rattle.pusher.specs.Moving.{Role, halted, faults, counts, submits, commands, enters, idles, role, act, pushOf, advanced, counted, parameterOf, begun, conditional, called, returned, commanded, entered, prepared, failedBy}
 use Rattle.pusher.specs.Promises.{Running, Failing}
@@ -14,7 +14,7 @@ use Rattle.pusher.specs.declared.record.Setup.{Setup}
 use Rattle.pusher.specs.declared.record.Pusher.{Pusher}
 use Rattle.pusher.specs.declared.moving.Pushed.{Pushed}
 use Rattle.pusher.specs.declared.entry.Entry.{Entry}
-use Rattle.pusher.proofs.Keeps.{advanced-only}
+use Rattle.pusher.proofs.PastWord.{advanced-only}
 use Rattle.pusher.proofs.Roles.{Facts, facts}
 use Rattle.pusher.proofs.Sentences.{runs, past-is}
 
@@ -53,18 +53,18 @@ entry-fails p q e run = by-test (Fails q) (λ z a b. absurd (omega arith)) (λ z
 advanced-runs : (s : Setup) (p : Pusher) → Running p → Running (advanced s p)
 advanced-runs s p run = ap (λ (x : Pusher). number (x .error)) (advanced-only s p) ∙ run
 
-act-fails : (s : Setup) (p : Pusher) (ws es : List ℕ) → Running p → (x : Role) → Facts s p ws es x → Fails (advanced s p) (act s p ws es x)
+act-fails : (s : Setup) (p : Pusher) (l : PusherLoan) → Running p → (x : Role) → Facts s p l x → Fails (advanced s p) (act s p l x)
 unfolding act counted number
-act-fails s p ws es run halted f = absurd (false≢true (sym (runs (p .error) run) ∙ f))
-act-fails s p ws es run faults f = λ a b. absurd (omega arith)
-act-fails s p ws es run counts f = let r = advanced-runs s p run in λ a b. absurd (omega arith)
-act-fails s p ws es run submits f = parameter-fails (advanced s p) (advanced-runs s p run) s _
-act-fails s p ws es run commands f = command-fails (advanced s p) (advanced-runs s p run) _
-act-fails s p ws es run enters f = entry-fails _ (advanced s p) _ run
-act-fails s p ws es run idles f = λ a b. absurd (omega arith)
+act-fails s p l run halted f = absurd (false≢true (sym (runs (p .error) run) ∙ f))
+act-fails s p l run faults f = λ a b. absurd (omega arith)
+act-fails s p l run counts f = let r = advanced-runs s p run in λ a b. absurd (omega arith)
+act-fails s p l run submits f = parameter-fails (advanced s p) (advanced-runs s p run) s _
+act-fails s p l run commands f = command-fails (advanced s p) (advanced-runs s p run) _
+act-fails s p l run enters f = entry-fails _ (advanced s p) _ run
+act-fails s p l run idles f = λ a b. absurd (omega arith)
 
 pub failing : Failing
 unfolding pushOf
-failing s p q ws es r m run a b past =
+failing s p q l r m run a b past =
     let q-is = past-is s p q past in
-    m ∙ act-fails s p ws es run (role s p ws es) (facts s p ws es) (rw m at a) (rw m at b) ∙ rw (q-is, m)
+    m ∙ act-fails s p l run (role s p l) (facts s p l) (rw m at a) (rw m at b) ∙ rw (q-is, m)

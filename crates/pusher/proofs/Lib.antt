@@ -1,8 +1,10 @@
 pub mod Entries
 pub mod Commands
 pub mod Roles
-pub mod Keeps
+pub mod PastWord
 pub mod Share
 pub mod Sentences
 pub mod Promises
 pub mod Failing
+pub mod Widths
+pub mod Many

@@ -2,7 +2,6 @@
 use Prim.Native.Nat.{ℕ, _+_, _*_, _/_, _%_, _^_, _≤_, _<_}
 use mathlib.Core.Path.{_≡_, refl, sym, ap, _∙_}
 use mathlib.Core.Bool.{Bool, true, false, not, false≢true}
-use mathlib.Core.List.{List}
 use mathlib.Core.Logic.{_⊎_, inl, inr, ⊎-elim, _↔_}
 use native.Mathlib.Omega.{arith}
 use lib.Bits.{bitAnd}
@@ -19,7 +18,8 @@ use Rattle.word.specs.declared.reading.Reading.the-variants.{Increasing, NonInc
 use Rattle.word.proofs.First.{one-outcome, choose-true, choose-false}
 use Rattle.word.proofs.Promises.{widths}
 use Rattle.event.specs.declared.Kind.the-variants as kind
-use Rattle.pusher.specs.Record.{number, withGet, withRun}
+use Rattle.pusher.specs.Loan.{PusherLoan}
+use Rattle.pusher.specs.Record.{number, withGet, withRun, withCount, withAwaited}
 use Rattle.pusher.specs.Entry.{parts, entryOf}
 use Rattle.pusher.specs.Moving.{halted, faults, idles, role, act, pushOf, advanced, counted, quietly, failedBy, commanded, begun, conditional, called, returned}
 use Rattle.pusher.specs.Contracts.{Moves}
@@ -33,24 +33,11 @@ use Rattle.pusher.proofs.Roles.{above-limit, past-words, past-entries, 
 use Rattle.pusher.proofs.Share.{share}
 use Rattle.pusher.proofs.Sentences.{runs, stands, past-of, keeps, by-role, count-is, parameter-is, command-is, non-cache-is, discard-is, submit-is, taken, rises-of, used-up-is, entry-is, empty-is, not-main-is, main-is}
 
--- what a word that faults, or an entry, does
-faulted : (s : Setup) (p : Pusher) (ws es : List ℕ) → role s p ws es ≡ faults → pushOf s p ws es ≡ failedBy p cause.Protection
-unfolding act
-faulted s p ws es e = by-role s p ws es faults e
-
-idled : (s : Setup) (p : Pusher) (ws es : List ℕ) → role s p ws es ≡ idles → pushOf s p ws es ≡ quietly p kind.Idle
-unfolding act
-idled s p ws es e = by-role s p ws es idles e
-
-was-stopped : (s : Setup) (p : Pusher) (ws es : List ℕ) → role s p ws es ≡ halted → pushOf s p ws es ≡ quietly p kind.Stopped
-unfolding act
-was-stopped s p ws es e = by-role s p ws es halted e
-
 -- "above dma_limit ..., or beyond the lent words"
-beyond-is : (s : Setup) (p : Pusher) (ws es : List ℕ) → Running p → (p .get ≡ p .put → ⊥) → ((s .limit < p .get) ⊎ (length ws ≤ p .get / 4)) → role s p ws es ≡ faults
-beyond-is s p ws es run n h = when-words s p ws es (runs (p .error) run) n ∙ ⊎-elim (λ l. above-limit s p ws l) (λ l. past-words s p ws l) h
+beyond-is : (s : Setup) (p : Pusher) (l : PusherLoan) → Running p → (p .get ≡ p .put → ⊥) → ((s .limit < p .get) ⊎ (length (l .words) ≤ p .get / 4)) → role s p l ≡ faults
+beyond-is s p l run n h = when-words s p l (runs (p .error) run) n ∙ ⊎-elim (above-limit s p (l .words)) (past-words s p (l .words)) h
 
-counted-is : (q : Pusher) (r : Run) (w : ℕ) → q .run ≡ r → counted q w ≡ quietly (withRun q (record { count = w % 2 ^ 24; method = r .method; subchannel = r .subchannel; increasing = r .increasing; awaited = false })) kind.Count
+counted-is : (q : Pusher) (r : Run) (w : ℕ) → q .run ≡ r → counted q w ≡ quietly (withRun q (withAwaited (withCount r (w % 2 ^ 24)) false)) kind.Count
 unfolding counted
 counted-is q r w e = let low : w / 2 ^ 0 % 2 ^ 24 ≡ w % 2 ^ 24 = omega arith in rw (e, low)
 
@@ -102,172 +89,171 @@ flag-is k mask active h = go (eqb (bitAnd k mask) 0) active refl refl
     go false false e f = absurd (false≢true (sym f ∙ h .1 (share k mask .0 (eqb-false _ _ e))))
 
 pub pushes : Pushes
-unfolding commanded conditional called returned
+unfolding act commanded conditional called returned
 pushes =
     record {
-      stopped = λ s p ws es r m h. m ∙ was-stopped s p ws es (when-halted s p ws es (stands (p .error) h));
-      idle = λ s p ws es r m run e h.
-          m
-          ∙ idled s p ws es
-          (⊎-elim (λ n. without-ib s p ws es (runs (p .error) run) e n) (λ n. without-entries s p ws es (runs (p .error) run) e n) h);
-      protection = λ s p ws es r m run n h. m ∙ faulted s p ws es (beyond-is s p ws es run n h);
-      count = λ s p q ws es w r m rd past a. m ∙ count-is s p ws es q w rd past a ∙ counted-is q (p .run) w (keeps s p q past .run);
-      non-cache = λ s p q ws es w r m rd no.
-          m ∙ parameter-is s p ws es q w rd ∙ non-cache-is s q w (rw (keeps s p q (rd .past) .run) (sym no));
-      discard = λ s p q ws es w n r m rd ri yes on off.
+      stopped = λ s p l r m h. m ∙ by-role s p l halted (when-halted s p l (stands (p .error) h));
+      idle = λ s p l r m run e h.
+          let go = runs (p .error) run in
+          m ∙ by-role s p l idles (⊎-elim (without-ib s p l go e) (without-entries s p l go e) h);
+      protection = λ s p l r m run n h. m ∙ by-role s p l faults (beyond-is s p l run n h);
+      count = λ s p q l w r m rd past a. m ∙ count-is s p l q w rd past a ∙ counted-is q (p .run) w (keeps s p q past .run);
+      non-cache = λ s p q l w r m rd no.
+          m ∙ parameter-is s p l q w rd ∙ non-cache-is s q w (rw (keeps s p q (rd .past) .run) (sym no));
+      discard = λ s p q l w n r m rd ri yes on off.
           let k = keeps s p q (rd .past) in
-          m ∙ parameter-is s p ws es q w rd
+          m ∙ parameter-is s p l q w rd
           ∙ discard-is s q w (rw (k .run) (sym yes)) on (rw (k .sli) off)
           ∙ rw (used-up-is q (p .run) n (k .run) ri, k .run);
-      submit = λ s p q ws es w n r m rd ri yes on.
+      submit = λ s p q l w n r m rd ri yes on.
           let k = keeps s p q (rd .past) in
-          m ∙ parameter-is s p ws es q w rd
+          m ∙ parameter-is s p l q w rd
           ∙ submit-is s q w (rw (k .run) (sym yes)) (rw (k .sli) (taken (s .setting .sli) (p .sli .active) on))
           ∙ rw (used-up-is q (p .run) n (k .run) ri, k .run);
-      nothing = λ s p q ws es x b n r m rd h. m ∙ command-is s p ws es q x rd ∙ nothing-is q x b n h;
-      increasing = λ s p q ws es c b n r m rd some.
-          m ∙ command-is s p ws es q _ rd ∙ begun-some q (p .run) c b n true (keeps s p q (rd .past) .run) (rd .unawaited) some;
-      non-increasing = λ s p q ws es c b n r m rd some.
-          m ∙ command-is s p ws es q _ rd ∙ begun-some q (p .run) c b n false (keeps s p q (rd .past) .run) (rd .unawaited) some;
-      long = λ s p q ws es b n c r m rd. m ∙ command-is s p ws es q _ rd ∙ long-is q (p .run) b n c (keeps s p q (rd .past) .run) (rd .none-left);
-      sli = λ s p q ws es k active r m rd h.
-          m ∙ command-is s p ws es q _ rd ∙ rw (keeps s p q (rd .past) .sli, flag-is k (p .sli .mask) active h);
-      jump = λ s p q ws es x t r m rd h. m ∙ command-is s p ws es q x rd ∙ jump-is q x t h;
-      call = λ s p q ws es t r m rd off.
+      nothing = λ s p q l x b n r m rd h. m ∙ command-is s p l q x rd ∙ nothing-is q x b n h;
+      increasing = λ s p q l c b n r m rd some.
+          m ∙ command-is s p l q _ rd ∙ begun-some q (p .run) c b n true (keeps s p q (rd .past) .run) (rd .unawaited) some;
+      non-increasing = λ s p q l c b n r m rd some.
+          m ∙ command-is s p l q _ rd ∙ begun-some q (p .run) c b n false (keeps s p q (rd .past) .run) (rd .unawaited) some;
+      long = λ s p q l b n c r m rd. m ∙ command-is s p l q _ rd ∙ long-is q (p .run) b n c (keeps s p q (rd .past) .run) (rd .none-left);
+      sli = λ s p q l k active r m rd h.
+          m ∙ command-is s p l q _ rd ∙ rw (keeps s p q (rd .past) .sli, flag-is k (p .sli .mask) active h);
+      jump = λ s p q l x t r m rd h. m ∙ command-is s p l q x rd ∙ jump-is q x t h;
+      call = λ s p q l t r m rd off.
           let k = keeps s p q (rd .past) in
-          m ∙ command-is s p ws es q _ rd ∙ choose-false (rw (k .subroutine) off) _ _ ∙ rw (k .get);
-      call-inside = λ s p q ws es t r m rd on.
-          m ∙ command-is s p ws es q _ rd ∙ choose-true (rw (keeps s p q (rd .past) .subroutine) on) _ _;
-      return = λ s p q ws es r m rd on.
+          m ∙ command-is s p l q _ rd ∙ choose-false (rw (k .subroutine) off) _ _ ∙ rw (k .get);
+      call-inside = λ s p q l t r m rd on.
+          m ∙ command-is s p l q _ rd ∙ choose-true (rw (keeps s p q (rd .past) .subroutine) on) _ _;
+      return = λ s p q l r m rd on.
           let k = keeps s p q (rd .past) in
-          m ∙ command-is s p ws es q _ rd ∙ choose-false (rw (k .subroutine, on)) _ _ ∙ rw (k .subroutine);
-      return-outside = λ s p q ws es r m rd off.
-          m ∙ command-is s p ws es q _ rd ∙ choose-true (rw (keeps s p q (rd .past) .subroutine, off)) _ _;
-      reserved = λ s p q ws es x r m rd h. m ∙ command-is s p ws es q x rd ∙ reserved-is q x h;
-      no-entry = λ s p ws es r m nx h.
+          m ∙ command-is s p l q _ rd ∙ choose-false (rw (k .subroutine, on)) _ _ ∙ rw (k .subroutine);
+      return-outside = λ s p q l r m rd off.
+          m ∙ command-is s p l q _ rd ∙ choose-true (rw (keeps s p q (rd .past) .subroutine, off)) _ _;
+      reserved = λ s p q l x r m rd h. m ∙ command-is s p l q x rd ∙ reserved-is q x h;
+      no-entry = λ s p l r m nx h.
           m
-          ∙ faulted s p ws es
-          (when-entries s p ws es (runs (p .error) (nx .running)) (nx .equal) (nx .ib) (nx .unequal) ∙ past-entries p es h);
-      empty-entry = λ s p ws es e i r m rd z. m ∙ entry-is s p ws es e i rd ∙ empty-is _ e z;
-      entry-not-main = λ s p ws es e i r m rd some b. m ∙ entry-is s p ws es e i rd ∙ not-main-is _ e some b;
-      entry-main = λ s p ws es e i r m rd some b. m ∙ entry-is s p ws es e i rd ∙ main-is _ e some b;
+          ∙ by-role s p l faults
+          (when-entries s p l (runs (p .error) (nx .running)) (nx .equal) (nx .ib) (nx .unequal) ∙ past-entries p (l .entries) h);
+      empty-entry = λ s p l e i r m rd z. m ∙ entry-is s p l e i rd ∙ empty-is _ e z;
+      entry-not-main = λ s p l e i r m rd some b. m ∙ entry-is s p l e i rd ∙ not-main-is _ e some b;
+      entry-main = λ s p l e i r m rd some b. m ∙ entry-is s p l e i rd ∙ main-is _ e some b;
     }
 
 -- No case is left open: at each, the sentence that applies says of R and of `push` the same.
-module _ (R : Setup → Pusher → List ℕ → List ℕ → Pushed → Type 0) (h : Sentences R) (s : Setup) (p : Pusher) (ws es : List ℕ) (r : Pushed) (m : R s p ws es r) where
+module _ (R : Setup → Pusher → PusherLoan → Pushed → Type 0) (h : Sentences R) (s : Setup) (p : Pusher) (l : PusherLoan) (r : Pushed) (m : R s p l r) where
   -- what a sentence says, of whatever relation
-  said : {x : Pushed} → ((Q : Setup → Pusher → List ℕ → List ℕ → Pushed → Type 0) → Sentences Q → (y : Pushed) → Q s p ws es y → y ≡ x) → Moves s p ws es r
-  said f = one-outcome (f R h r m) (f Moves pushes (pushOf s p ws es) refl)
+  said : {x : Pushed} → ((Q : Setup → Pusher → PusherLoan → Pushed → Type 0) → Sentences Q → (y : Pushed) → Q s p l y → y ≡ x) → Moves s p l r
+  said f = one-outcome (f R h r m) (f Moves pushes (pushOf s p l) refl)
 
   abbrev q : Pusher
   q = advanced s p
 
   -- a parameter
-  parameter : (w : ℕ) → ParameterRead s p q ws w → Moves s p ws es r
-  parameter w rd = go (presentOf (s .setting .level .number) (4 * p .run .method)) (s .setting .sli) (p .sli .active) refl refl refl
+  parameter : (w : ℕ) → ParameterRead s p q l w → Moves s p l r
+  parameter w rd = go (presentOf (s .setting .level .number) (p .run .method)) (s .setting .sli) (p .sli .active) refl refl refl
     where
       go :
           (has on active : Bool)
-          → presentOf (s .setting .level .number) (4 * p .run .method) ≡ has
+          → presentOf (s .setting .level .number) (p .run .method) ≡ has
           → s .setting .sli ≡ on
           → p .sli .active ≡ active
-          → Moves s p ws es r
-      go false on active e f g = said (λ Q k y a. k .non-cache s p q ws es w y a rd (sym e))
-      go true false active e f g = said (λ Q k y a. k .submit s p q ws es w _ y a rd (rises-of (p .run)) (sym e) (inl f))
-      go true true true e f g = said (λ Q k y a. k .submit s p q ws es w _ y a rd (rises-of (p .run)) (sym e) (inr g))
-      go true true false e f g = said (λ Q k y a. k .discard s p q ws es w _ y a rd (rises-of (p .run)) (sym e) f g)
+          → Moves s p l r
+      go false on active e f g = said (λ Q k y a. k .non-cache s p q l w y a rd (sym e))
+      go true false active e f g = said (λ Q k y a. k .submit s p q l w _ y a rd (rises-of (p .run)) (sym e) (inl f))
+      go true true true e f g = said (λ Q k y a. k .submit s p q l w _ y a rd (rises-of (p .run)) (sym e) (inr g))
+      go true true false e f g = said (λ Q k y a. k .discard s p q l w _ y a rd (rises-of (p .run)) (sym e) f g)
 
   -- a command, by what it reads as; a method is 4 times its number
-  module _ (w : ℕ) (rd : WordRead s p ws w) (unawaited : p .run .awaited ≡ false) (none-left : p .run .count ≡ 0) where
-    reading-of : (x : Reading) → x ≡ reading.readOf (s .setting) w 0 → CommandRead s p q ws x
+  module _ (w : ℕ) (rd : WordRead s p l w) (unawaited : p .run .awaited ≡ false) (none-left : p .run .count ≡ 0) where
+    reading-of : (x : Reading) → x ≡ reading.readOf (s .setting) w 0 → CommandRead s p q l x
     reading-of x e = record { word = w; read = rd; past = past-of s p; unawaited = unawaited; none-left = none-left; reads = e }
 
     -- a run, of either kind, by whether its count is 0
-    by-count : (c : ℕ) → (c ≡ 0 → Moves s p ws es r) → ((c ≡ 0 → ⊥) → Moves s p ws es r) → Moves s p ws es r
+    by-count : (c : ℕ) → (c ≡ 0 → Moves s p l r) → ((c ≡ 0 → ⊥) → Moves s p l r) → Moves s p l r
     by-count c empty filled = go (eqb c 0) refl
       where
-        go : (z : Bool) → eqb c 0 ≡ z → Moves s p ws es r
+        go : (z : Bool) → eqb c 0 ≡ z → Moves s p l r
         go true z = empty (eqb-true c 0 z)
         go false z = filled (eqb-false c 0 z)
 
     -- by whether a subroutine is active
-    by-active : (p .subroutine .active ≡ true → Moves s p ws es r) → (p .subroutine .active ≡ false → Moves s p ws es r) → Moves s p ws es r
+    by-active : (p .subroutine .active ≡ true → Moves s p l r) → (p .subroutine .active ≡ false → Moves s p l r) → Moves s p l r
     by-active inside outside = go (p .subroutine .active) refl
       where
-        go : (a : Bool) → p .subroutine .active ≡ a → Moves s p ws es r
+        go : (a : Bool) → p .subroutine .active ≡ a → Moves s p l r
         go true a = inside a
         go false a = outside a
 
-    command : (x : Reading) → x ≡ reading.readOf (s .setting) w 0 → Within x → Moves s p ws es r
+    command : (x : Reading) → x ≡ reading.readOf (s .setting) w 0 → Within x → Moves s p l r
     unfolding reading.number
     command (Increasing c b n) e wi =
         let four : 4 * (n / 4) ≡ n = omega (arith, wi .3) in
-        by-count c (λ z. said (λ Q k y a. k .nothing s p q ws es _ b n y a (reading-of _ e) (inl (ap (λ (i : ℕ). Increasing i b n) z))))
-        (λ z. said (λ Q k y a. k .increasing s p q ws es c b (n / 4) y a (reading-of _ (ap (λ (i : ℕ). Increasing c b i) four ∙ e)) z))
+        by-count c (λ z. said (λ Q k y a. k .nothing s p q l _ b n y a (reading-of _ e) (inl (ap (λ (i : ℕ). Increasing i b n) z))))
+        (λ z. said (λ Q k y a. k .increasing s p q l c b (n / 4) y a (reading-of _ (ap (λ (i : ℕ). Increasing c b i) four ∙ e)) z))
     command (NonIncreasing c b n) e wi =
         let four : 4 * (n / 4) ≡ n = omega (arith, wi .3) in
-        by-count c (λ z. said (λ Q k y a. k .nothing s p q ws es _ b n y a (reading-of _ e) (inr (ap (λ (i : ℕ). NonIncreasing i b n) z))))
-        (λ z. said (λ Q k y a. k .non-increasing s p q ws es c b (n / 4) y a (reading-of _ (ap (λ (i : ℕ). NonIncreasing c b i) four ∙ e)) z))
-    command (Sli i) e wi = said (λ Q k y a. k .sli s p q ws es i _ y a (reading-of _ e) (flag-of i (p .sli .mask)))
+        by-count c (λ z. said (λ Q k y a. k .nothing s p q l _ b n y a (reading-of _ e) (inr (ap (λ (i : ℕ). NonIncreasing i b n) z))))
+        (λ z. said (λ Q k y a. k .non-increasing s p q l c b (n / 4) y a (reading-of _ (ap (λ (i : ℕ). NonIncreasing c b i) four ∙ e)) z))
+    command (Sli i) e wi = said (λ Q k y a. k .sli s p q l i _ y a (reading-of _ e) (flag-of i (p .sli .mask)))
     command Return e wi =
-        by-active (λ on. said (λ Q k y a. k .return s p q ws es y a (reading-of _ e) on)) (λ off. said (λ Q k y a. k .return-outside s p q ws es y a (reading-of _ e) off))
+        by-active (λ on. said (λ Q k y a. k .return s p q l y a (reading-of _ e) on)) (λ off. said (λ Q k y a. k .return-outside s p q l y a (reading-of _ e) off))
     command (Long b n c) e wi =
         let four : 4 * (n / 4) ≡ n = omega (arith, wi .2) in
-        said (λ Q k y a. k .long s p q ws es b (n / 4) c y a (reading-of _ (ap (λ (i : ℕ). Long b i c) four ∙ e)))
-    command (OldJump t) e wi = said (λ Q k y a. k .jump s p q ws es _ t y a (reading-of _ e) (inl refl))
-    command (Jump t) e wi = said (λ Q k y a. k .jump s p q ws es _ t y a (reading-of _ e) (inr refl))
+        said (λ Q k y a. k .long s p q l b (n / 4) c y a (reading-of _ (ap (λ (i : ℕ). Long b i c) four ∙ e)))
+    command (OldJump t) e wi = said (λ Q k y a. k .jump s p q l _ t y a (reading-of _ e) (inl refl))
+    command (Jump t) e wi = said (λ Q k y a. k .jump s p q l _ t y a (reading-of _ e) (inr refl))
     command (Call t) e wi =
-        by-active (λ on. said (λ Q k y a. k .call-inside s p q ws es t y a (reading-of _ e) on)) (λ off. said (λ Q k y a. k .call s p q ws es t y a (reading-of _ e) off))
-    command Reserved e wi = said (λ Q k y a. k .reserved s p q ws es _ y a (reading-of _ e) (omega arith))
-    command (Refused n) e wi = said (λ Q k y a. k .reserved s p q ws es _ y a (reading-of _ e) (omega arith))
+        by-active (λ on. said (λ Q k y a. k .call-inside s p q l t y a (reading-of _ e) on)) (λ off. said (λ Q k y a. k .call s p q l t y a (reading-of _ e) off))
+    command Reserved e wi = said (λ Q k y a. k .reserved s p q l _ y a (reading-of _ e) (omega arith))
+    command (Refused n) e wi = said (λ Q k y a. k .reserved s p q l _ y a (reading-of _ e) (omega arith))
 
   -- a word, by whether a count is awaited and whether parameters are left
-  word : (w : ℕ) → WordRead s p ws w → Moves s p ws es r
+  word : (w : ℕ) → WordRead s p l w → Moves s p l r
   word w rd = go (p .run .awaited) (eqb (p .run .count) 0) refl refl
     where
-      go : (a z : Bool) → p .run .awaited ≡ a → eqb (p .run .count) 0 ≡ z → Moves s p ws es r
-      go true z e f = said (λ Q k y a. k .count s p q ws es w y a rd (past-of s p) e)
+      go : (a z : Bool) → p .run .awaited ≡ a → eqb (p .run .count) 0 ≡ z → Moves s p l r
+      go true z e f = said (λ Q k y a. k .count s p q l w y a rd (past-of s p) e)
       go false true e f = command w rd e (eqb-true _ _ f) _ refl (widths (s .setting) w 0 _ refl)
       go false false e f = parameter w (record { read = rd; past = past-of s p; unawaited = e; left = eqb-false _ _ f })
 
-  unread : Running p → (p .get ≡ p .put → ⊥) → Moves s p ws es r
-  unread run n = go (ltb (s .limit) (p .get)) (leb (length ws) (p .get / 4)) refl refl
+  unread : Running p → (p .get ≡ p .put → ⊥) → Moves s p l r
+  unread run n = go (ltb (s .limit) (p .get)) (leb (length (l .words)) (p .get / 4)) refl refl
     where
-      go : (a b : Bool) → ltb (s .limit) (p .get) ≡ a → leb (length ws) (p .get / 4) ≡ b → Moves s p ws es r
-      go true b e f = said (λ Q k y a. k .protection s p ws es y a run n (inl (ltb-true _ _ e)))
-      go false true e f = said (λ Q k y a. k .protection s p ws es y a run n (inr (leb-true _ _ f)))
+      go : (a b : Bool) → ltb (s .limit) (p .get) ≡ a → leb (length (l .words)) (p .get / 4) ≡ b → Moves s p l r
+      go true b e f = said (λ Q k y a. k .protection s p l y a run n (inl (ltb-true _ _ e)))
+      go false true e f = said (λ Q k y a. k .protection s p l y a run n (inr (leb-true _ _ f)))
       go false false e f = word _ (record { running = run; unequal = n; limit = ltb-false _ _ e; lent = leb-false _ _ f; word = refl })
 
   -- an entry
-  entry : EntryNext s p → Moves s p ws es r
-  entry nx = go (leb (length es) (p .ib .get)) refl
+  entry : EntryNext s p → Moves s p l r
+  entry nx = go (leb (length (l .entries)) (p .ib .get)) refl
     where
       e : ℕ
-      e = getD es (p .ib .get) 0
+      e = getD (l .entries) (p .ib .get) 0
 
       i : ℕ
       i = (p .ib .get + 1) % 2 ^ choose (ltb 12 (s .order)) 12 (s .order)
 
-      rd : p .ib .get < length es → EntryRead s p es e i
-      rd l =
+      rd : p .ib .get < length (l .entries) → EntryRead s p l e i
+      rd lent =
           record {
             next = nx;
-            lent = l;
+            lent = lent;
             entry = refl;
             rises = λ o. rw (choose-false (le-ltb 12 (s .order) o) 12 (s .order));
             rises-over = λ o. rw (choose-true (lt-ltb 12 (s .order) o) 12 (s .order));
           }
 
-      there : p .ib .get < length es → (a b : Bool) → eqb (sizeIn e) 0 ≡ a → eqb (e / 2 ^ 41 % 2) 1 ≡ b → Moves s p ws es r
-      there l true b z f = said (λ Q k y a. k .empty-entry s p ws es e i y a (rd l) (eqb-true _ _ z))
-      there l false true z f = said (λ Q k y a. k .entry-not-main s p ws es e i y a (rd l) (eqb-false _ _ z) (eqb-true _ _ f))
-      there l false false z f =
+      there : p .ib .get < length (l .entries) → (a b : Bool) → eqb (sizeIn e) 0 ≡ a → eqb (e / 2 ^ 41 % 2) 1 ≡ b → Moves s p l r
+      there lent true b z f = said (λ Q k y a. k .empty-entry s p l e i y a (rd lent) (eqb-true _ _ z))
+      there lent false true z f = said (λ Q k y a. k .entry-not-main s p l e i y a (rd lent) (eqb-false _ _ z) (eqb-true _ _ f))
+      there lent false false z f =
           let n = eqb-false (e / 2 ^ 41 % 2) 1 f in
           let o : e / 2 ^ 41 % 2 ≡ 0 = omega arith in
-          said (λ Q k y a. k .entry-main s p ws es e i y a (rd l) (eqb-false _ _ z) o)
+          said (λ Q k y a. k .entry-main s p l e i y a (rd lent) (eqb-false _ _ z) o)
 
-      go : (b : Bool) → leb (length es) (p .ib .get) ≡ b → Moves s p ws es r
-      go true f = said (λ Q k y a. k .no-entry s p ws es y a nx (leb-true _ _ f))
+      go : (b : Bool) → leb (length (l .entries)) (p .ib .get) ≡ b → Moves s p l r
+      go true f = said (λ Q k y a. k .no-entry s p l y a nx (leb-true _ _ f))
       go false f = there (leb-false _ _ f) _ _ refl refl
 
   moved :
@@ -276,18 +262,18 @@ module _ (R : Setup → Pusher → List ℕ → List ℕ → Pushed → Type 0) 
       → eqb (p .get) (p .put) ≡ b
       → eqb (s .setting .mode .number) 1 ≡ c
       → eqb (p .ib .get) (p .ib .put) ≡ d
-      → Moves s p ws es r
-  moved false b c d e f g i = said (λ Q k y a. k .stopped s p ws es y a (eqb-false _ _ e))
+      → Moves s p l r
+  moved false b c d e f g i = said (λ Q k y a. k .stopped s p l y a (eqb-false _ _ e))
   moved true false c d e f g i = unread (eqb-true _ _ e) (eqb-false _ _ f)
-  moved true true false d e f g i = said (λ Q k y a. k .idle s p ws es y a (eqb-true _ _ e) (eqb-true _ _ f) (inl (eqb-false (s .setting .mode .number) 1 g)))
-  moved true true true true e f g i = said (λ Q k y a. k .idle s p ws es y a (eqb-true _ _ e) (eqb-true _ _ f) (inr (eqb-true (p .ib .get) (p .ib .put) i)))
+  moved true true false d e f g i = said (λ Q k y a. k .idle s p l y a (eqb-true _ _ e) (eqb-true _ _ f) (inl (eqb-false (s .setting .mode .number) 1 g)))
+  moved true true true true e f g i = said (λ Q k y a. k .idle s p l y a (eqb-true _ _ e) (eqb-true _ _ f) (inr (eqb-true (p .ib .get) (p .ib .put) i)))
   moved true true true false e f g i = entry (record { running = eqb-true _ _ e; equal = eqb-true _ _ f; ib = eqb-true _ _ g; unequal = eqb-false _ _ i })
 
 pub no-other : NoOther
-no-other R h s p ws es r m = moved R h s p ws es r m _ _ _ _ refl refl refl refl
+no-other R h s p l r m = moved R h s p l r m _ _ _ _ refl refl refl refl
 
 pub one : One
-one = record { push = λ s p ws es a b x y. one-outcome x y; number = λ e a b x y. one-outcome x y; stopped = λ p a b x y. one-outcome x y }
+one = record { push = λ s p l a b x y. one-outcome x y; number = λ e a b x y. one-outcome x y; stopped = λ p a b x y. one-outcome x y }
 
 pub entry-numbers : EntryNumbers
 unfolding entryOf parts numbersIn

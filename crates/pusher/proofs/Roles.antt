@@ -10,6 +10,7 @@ use borrow.Author.Tests.{lt-ltb, le-ltb, le-leb, lt-leb, eq-eqb, ne-eqb, ltb-fal
 use Rattle.word.specs.First.{choose}
 use Rattle.word.proofs.First.{by-test, choose-true, choose-false}
 use Rattle.word.proofs.Tests.{both, or-plain, less-plain, most-plain}
+use Rattle.pusher.specs.Loan.{PusherLoan}
 use Rattle.pusher.specs.Record.{halts}
 use Rattle.pusher.specs.Moving.{Role, halted, faults, counts, submits, commands, enters, idles, beyond, wordRole, entryRole, role}
 use Rattle.pusher.specs.declared.record.Setup.{Setup}
@@ -53,35 +54,35 @@ module _ (p : Pusher) (es : List ℕ) where
   at-entry h = choose-false (lt-leb _ _ h) _ _
 
 -- and which of the two it is, or neither
-module _ (s : Setup) (p : Pusher) (ws es : List ℕ) where
-  pub when-halted : halts (p .error) ≡ true → role s p ws es ≡ halted
+module _ (s : Setup) (p : Pusher) (l : PusherLoan) where
+  pub when-halted : halts (p .error) ≡ true → role s p l ≡ halted
   unfolding role
   when-halted h = choose-true h _ _
 
   module _ (runs : halts (p .error) ≡ false) where
-    pub when-words : (p .get ≡ p .put → ⊥) → role s p ws es ≡ wordRole s p ws
+    pub when-words : (p .get ≡ p .put → ⊥) → role s p l ≡ wordRole s p (l .words)
     unfolding role
     when-words n = choose-false runs _ _ ∙ choose-true (ap not (ne-eqb _ _ n)) _ _
 
     module _ (equal : p .get ≡ p .put) where
-      without-words : role s p ws es ≡ choose (eqb (s .setting .mode .number) 1 && not (eqb (p .ib .get) (p .ib .put))) (entryRole p es) idles
+      without-words : role s p l ≡ choose (eqb (s .setting .mode .number) 1 && not (eqb (p .ib .get) (p .ib .put))) (entryRole p (l .entries)) idles
       unfolding role
       without-words = choose-false runs _ _ ∙ choose-false (ap not (eq-eqb _ _ equal)) _ _
 
-      pub without-ib : (s .setting .mode .number ≡ 1 → ⊥) → role s p ws es ≡ idles
+      pub without-ib : (s .setting .mode .number ≡ 1 → ⊥) → role s p l ≡ idles
       without-ib n = without-words ∙ choose-false (rw (ne-eqb _ _ n)) _ _
 
-      pub without-entries : p .ib .get ≡ p .ib .put → role s p ws es ≡ idles
+      pub without-entries : p .ib .get ≡ p .ib .put → role s p l ≡ idles
       without-entries e = without-words ∙ choose-false (rw (eq-eqb _ _ e, and-false)) _ _
 
-      pub when-entries : s .setting .mode .number ≡ 1 → (p .ib .get ≡ p .ib .put → ⊥) → role s p ws es ≡ entryRole p es
+      pub when-entries : s .setting .mode .number ≡ 1 → (p .ib .get ≡ p .ib .put → ⊥) → role s p l ≡ entryRole p (l .entries)
       when-entries m n = without-words ∙ choose-true (rw (eq-eqb _ _ m, ne-eqb _ _ n)) _ _
 
 -- the word that is read, and the entry that comes next
-pub record AtWord (s : Setup) (p : Pusher) (ws : List ℕ) : Type 0 where
+pub record AtWord (s : Setup) (p : Pusher) (l : PusherLoan) : Type 0 where
   pub unequal : p .get ≡ p .put → ⊥
   pub low : p .get ≤ s .limit
-  pub lent : p .get / 4 < length ws
+  pub lent : p .get / 4 < length (l .words)
 
 pub record AtEntry (s : Setup) (p : Pusher) : Type 0 where
   pub equal : p .get ≡ p .put
@@ -89,16 +90,16 @@ pub record AtEntry (s : Setup) (p : Pusher) : Type 0 where
   pub unequal : p .ib .get ≡ p .ib .put → ⊥
 
 -- what each role knows
-abbrev pub Facts : Setup → Pusher → List ℕ → List ℕ → Role → Type 0
-Facts s p ws es halted = halts (p .error) ≡ true
-Facts s p ws es faults =
+abbrev pub Facts : Setup → Pusher → PusherLoan → Role → Type 0
+Facts s p l halted = halts (p .error) ≡ true
+Facts s p l faults =
     (halts (p .error) ≡ false)
-    × (((p .get ≡ p .put → ⊥) × ((s .limit < p .get) ⊎ (length ws ≤ p .get / 4))) ⊎ (AtEntry s p × (length es ≤ p .ib .get)))
-Facts s p ws es counts = (halts (p .error) ≡ false) × AtWord s p ws × (p .run .awaited ≡ true)
-Facts s p ws es submits = (halts (p .error) ≡ false) × AtWord s p ws × (p .run .awaited ≡ false) × (p .run .count ≡ 0 → ⊥)
-Facts s p ws es commands = (halts (p .error) ≡ false) × AtWord s p ws × (p .run .awaited ≡ false) × (p .run .count ≡ 0)
-Facts s p ws es enters = (halts (p .error) ≡ false) × AtEntry s p × (p .ib .get < length es)
-Facts s p ws es idles = (halts (p .error) ≡ false) × (p .get ≡ p .put) × ((s .setting .mode .number ≡ 1 → ⊥) ⊎ (p .ib .get ≡ p .ib .put))
+    × (((p .get ≡ p .put → ⊥) × ((s .limit < p .get) ⊎ (length (l .words) ≤ p .get / 4))) ⊎ (AtEntry s p × (length (l .entries) ≤ p .ib .get)))
+Facts s p l counts = (halts (p .error) ≡ false) × AtWord s p l × (p .run .awaited ≡ true)
+Facts s p l submits = (halts (p .error) ≡ false) × AtWord s p l × (p .run .awaited ≡ false) × (p .run .count ≡ 0 → ⊥)
+Facts s p l commands = (halts (p .error) ≡ false) × AtWord s p l × (p .run .awaited ≡ false) × (p .run .count ≡ 0)
+Facts s p l enters = (halts (p .error) ≡ false) × AtEntry s p × (p .ib .get < length (l .entries))
+Facts s p l idles = (halts (p .error) ≡ false) × (p .get ≡ p .put) × ((s .setting .mode .number ≡ 1 → ⊥) ⊎ (p .ib .get ≡ p .ib .put))
 
 -- a test of two that fails
 neither : (a b : Bool) → (a || b) ≡ false → (a ≡ false) × (b ≡ false)
@@ -109,32 +110,32 @@ not-both : (a b : Bool) → a && b ≡ false → (a ≡ false) ⊎ (b ≡ false)
 not-both true b e = inr e
 not-both false b e = inl refl
 
-module _ (s : Setup) (p : Pusher) (ws es : List ℕ) where
+module _ (s : Setup) (p : Pusher) (l : PusherLoan) where
   module _ (runs : halts (p .error) ≡ false) where
-    word-facts : (p .get ≡ p .put → ⊥) → Facts s p ws es (wordRole s p ws)
+    word-facts : (p .get ≡ p .put → ⊥) → Facts s p l (wordRole s p (l .words))
     unfolding wordRole
     word-facts n =
-        by-test (Facts s p ws es) (λ b. (runs, inl (n, or-plain _ _ (less-plain _ _) (most-plain _ _) .0 b)))
+        by-test (Facts s p l) (λ b. (runs, inl (n, or-plain _ _ (less-plain _ _) (most-plain _ _) .0 b)))
         (λ b.
         let lent = neither _ _ b in
-        let w : AtWord s p ws = record { unequal = n; low = ltb-false _ _ (lent .0); lent = leb-false _ _ (lent .1) } in
-        by-test (Facts s p ws es) (λ a. (runs, w, a))
-        (λ a. by-test (Facts s p ws es) (λ k. (runs, w, a, eqb-false _ _ (not-true _ k))) (λ k. (runs, w, a, eqb-true _ _ (not-false _ k)))))
+        let w : AtWord s p l = record { unequal = n; low = ltb-false _ _ (lent .0); lent = leb-false _ _ (lent .1) } in
+        by-test (Facts s p l) (λ a. (runs, w, a))
+        (λ a. by-test (Facts s p l) (λ k. (runs, w, a, eqb-false _ _ (not-true _ k))) (λ k. (runs, w, a, eqb-true _ _ (not-false _ k)))))
 
-    entry-facts : AtEntry s p → Facts s p ws es (entryRole p es)
+    entry-facts : AtEntry s p → Facts s p l (entryRole p (l .entries))
     unfolding entryRole
-    entry-facts e = by-test (Facts s p ws es) (λ l. (runs, inr (e, leb-true _ _ l))) (λ l. (runs, e, leb-false _ _ l))
+    entry-facts e = by-test (Facts s p l) (λ b. (runs, inr (e, leb-true _ _ b))) (λ b. (runs, e, leb-false _ _ b))
 
-  pub facts : Facts s p ws es (role s p ws es)
+  pub facts : Facts s p l (role s p l)
   unfolding role
   facts =
       let ib = eqb (s .setting .mode .number) 1 in
       let new = not (eqb (p .ib .get) (p .ib .put)) in
-      by-test (Facts s p ws es) (λ h. h)
+      by-test (Facts s p l) (λ h. h)
       (λ runs.
-      by-test (Facts s p ws es) (λ n. word-facts runs (eqb-false _ _ (not-true _ n)))
+      by-test (Facts s p l) (λ n. word-facts runs (eqb-false _ _ (not-true _ n)))
       (λ n.
       let equal = eqb-true _ _ (not-false _ n) in
-      by-test (Facts s p ws es)
+      by-test (Facts s p l)
       (λ b. let t = both ib new b in entry-facts runs (record { equal = equal; ib = eqb-true _ _ (t .0); unequal = eqb-false _ _ (not-true _ (t .1)) }))
       (λ b. (runs, equal, ⊎-elim (λ f. inl (eqb-false _ _ f)) (λ f. inr (eqb-true _ _ (not-false _ f))) (not-both ib new b)))))

@@ -1,8 +1,7 @@
 -- What a move does where each of the paper's sentences applies. Assumes nothing.
-use Prim.Native.Nat.{ℕ, _+_, _*_, _/_, _%_, _^_}
+use Prim.Native.Nat.{ℕ, _+_, _/_, _%_, _^_}
 use mathlib.Core.Path.{_≡_, refl, sym, ap, _∙_}
 use mathlib.Core.Bool.{Bool, true, false, not, _&&_, and-false, false≢true}
-use mathlib.Core.List.{List}
 use native.Mathlib.Omega.{arith}
 use lib.Dec.{eqb, ltb}
 use mathlib.Core.Logic.{_⊎_, ⊎-elim}
@@ -14,6 +13,7 @@ use Rattle.word.specs.declared.reading.Reading.{Reading}
 use Rattle.word.proofs.First.{choose-true, choose-false, by-test}
 use Rattle.event.specs.declared.Kind.the-variants as kind
 use Rattle.event.specs.declared.Event.the-variants.{Of}
+use Rattle.pusher.specs.Loan.{PusherLoan}
 use Rattle.pusher.specs.Record.{number, halts, withGet, withRun, withMain, withIb}
 use Rattle.pusher.specs.Entry.{parts, entryOf}
 use Rattle.pusher.specs.Moving.{Role, counts, submits, commands, enters, wordRole, role, act, pushOf, follows, advanced, counted, quietly, failedBy, parameterOf, usedUp, rises, methodOf, commanded, nextIndex, entered, prepared}
@@ -24,7 +24,7 @@ use Rattle.pusher.specs.declared.record.PusherError.{PusherError}
 use Rattle.pusher.specs.declared.record.PusherError.the-variants as cause
 use Rattle.pusher.specs.declared.record.Pusher.{Pusher}
 use Rattle.pusher.specs.declared.moving.Did.the-variants as did
-use Rattle.pusher.proofs.Keeps.{advanced-only}
+use Rattle.pusher.proofs.PastWord.{advanced-only}
 use Rattle.pusher.proofs.Roles.{awaits-count, inside-run, between-runs, when-words, when-entries, at-entry}
 
 -- an error's number says whether it halts
@@ -79,39 +79,39 @@ module _ (s : Setup) (p : Pusher) where
         sli = ap (λ (x : Pusher). x .sli) only;
       }
 
-module _ (s : Setup) (p : Pusher) (ws es : List ℕ) where
-  pub by-role : (x : Role) → role s p ws es ≡ x → pushOf s p ws es ≡ act s p ws es x
+module _ (s : Setup) (p : Pusher) (l : PusherLoan) where
+  pub by-role : (x : Role) → role s p l ≡ x → pushOf s p l ≡ act s p l x
   unfolding pushOf
-  by-role x e = ap (λ (y : Role). act s p ws es y) e
+  by-role x e = ap (λ (y : Role). act s p l y) e
 
   -- a word read: as a count, as a parameter, as a command
-  word-role : (w : ℕ) → WordRead s p ws w → role s p ws es ≡ wordRole s p ws
-  word-role w h = when-words s p ws es (runs (p .error) (h .running)) (h .unequal)
+  word-role : (w : ℕ) → WordRead s p l w → role s p l ≡ wordRole s p (l .words)
+  word-role w h = when-words s p l (runs (p .error) (h .running)) (h .unequal)
 
-  pub count-is : (q : Pusher) (w : ℕ) → WordRead s p ws w → Past s p q → p .run .awaited ≡ true → pushOf s p ws es ≡ counted q w
+  pub count-is : (q : Pusher) (w : ℕ) → WordRead s p l w → Past s p q → p .run .awaited ≡ true → pushOf s p l ≡ counted q w
   unfolding act
   count-is q w h past a =
-      by-role counts (word-role w h ∙ awaits-count s p ws (h .limit) (h .lent) a) ∙ rw (past-is s p q past, h .word)
+      by-role counts (word-role w h ∙ awaits-count s p (l .words) (h .limit) (h .lent) a) ∙ rw (past-is s p q past, h .word)
 
-  pub parameter-is : (q : Pusher) (w : ℕ) → ParameterRead s p q ws w → pushOf s p ws es ≡ parameterOf s q w
+  pub parameter-is : (q : Pusher) (w : ℕ) → ParameterRead s p q l w → pushOf s p l ≡ parameterOf s q w
   unfolding act
   parameter-is q w h =
-      by-role submits (word-role w (h .read) ∙ inside-run s p ws (h .read .limit) (h .read .lent) (h .unawaited) (h .left))
+      by-role submits (word-role w (h .read) ∙ inside-run s p (l .words) (h .read .limit) (h .read .lent) (h .unawaited) (h .left))
       ∙ rw (past-is s p q (h .past), h .read .word)
 
-  pub command-is : (q : Pusher) (x : Reading) → CommandRead s p q ws x → pushOf s p ws es ≡ commanded q x
+  pub command-is : (q : Pusher) (x : Reading) → CommandRead s p q l x → pushOf s p l ≡ commanded q x
   unfolding act
   command-is q x h =
-      by-role commands (word-role (h .word) (h .read) ∙ between-runs s p ws (h .read .limit) (h .read .lent) (h .unawaited) (h .none-left))
+      by-role commands (word-role (h .word) (h .read) ∙ between-runs s p (l .words) (h .read .limit) (h .read .lent) (h .unawaited) (h .none-left))
       ∙ rw (past-is s p q (h .past), h .reads, h .read .word)
 
 -- a parameter
 module _ (s : Setup) (q : Pusher) (w : ℕ) where
-  pub non-cache-is : presentOf (s .setting .level .number) (4 * q .run .method) ≡ false → parameterOf s q w ≡ failedBy q cause.NonCache
+  pub non-cache-is : presentOf (s .setting .level .number) (q .run .method) ≡ false → parameterOf s q w ≡ failedBy q cause.NonCache
   unfolding parameterOf
   non-cache-is e = choose-true (rw e) _ _
 
-  module _ (e : presentOf (s .setting .level .number) (4 * q .run .method) ≡ true) where
+  module _ (e : presentOf (s .setting .level .number) (q .run .method) ≡ true) where
     pub discard-is : s .setting .sli ≡ true → q .sli .active ≡ false → parameterOf s q w ≡ record { pusher = usedUp q; did = did.Event (Of kind.Discard (methodOf q w)) }
     unfolding parameterOf
     discard-is on off = choose-false (rw e) _ _ ∙ choose-true (rw (on, off)) _ _
@@ -137,22 +137,22 @@ pub used-up-is : (q : Pusher) (r : Run) (n : ℕ) → q .run ≡ r → Rises r n
 used-up-is q r n e h = rw (e, rises-is r n h)
 
 -- the ring of entries
-pub following-is : (s : Setup) (p : Pusher) (es : List ℕ) (e i : ℕ) → EntryRead s p es e i → nextIndex (s .order) (p .ib .get) ≡ i
+pub following-is : (s : Setup) (p : Pusher) (l : PusherLoan) (e i : ℕ) → EntryRead s p l e i → nextIndex (s .order) (p .ib .get) ≡ i
 unfolding nextIndex
-following-is s p es e i h = go (ltb 12 (s .order)) refl
+following-is s p l e i h = go (ltb 12 (s .order)) refl
   where
     go : (b : Bool) → ltb 12 (s .order) ≡ b → (p .ib .get + 1) % 2 ^ choose (ltb 12 (s .order)) 12 (s .order) ≡ i
     go true e = rw (choose-true e 12 (s .order)) (sym (h .rises-over (ltb-true _ _ e)))
     go false e = rw (choose-false e 12 (s .order)) (sym (h .rises (ltb-false _ _ e)))
 
 -- an entry that is there
-module _ (s : Setup) (p : Pusher) (ws es : List ℕ) (e i : ℕ) (h : EntryRead s p es e i) where
-  pub entry-is : pushOf s p ws es ≡ entered (withIb p i (p .ib .put)) (entryOf e)
+module _ (s : Setup) (p : Pusher) (l : PusherLoan) (e i : ℕ) (h : EntryRead s p l e i) where
+  pub entry-is : pushOf s p l ≡ entered (withIb p i (p .ib .put)) (entryOf e)
   unfolding act
   entry-is =
-      by-role s p ws es enters
-      (when-entries s p ws es (runs (p .error) (h .next .running)) (h .next .equal) (h .next .ib) (h .next .unequal) ∙ at-entry p es (h .lent))
-      ∙ rw (following-is s p es e i h, h .entry)
+      by-role s p l enters
+      (when-entries s p l (runs (p .error) (h .next .running)) (h .next .equal) (h .next .ib) (h .next .unequal) ∙ at-entry p (l .entries) (h .lent))
+      ∙ rw (following-is s p l e i h, h .entry)
 
 module _ (p : Pusher) (e : ℕ) where
   prepared-not-main : e / 2 ^ 41 % 2 ≡ 1 → prepared p (entryOf e) ≡ atEntry p e true (p .main .mget)

@@ -2,8 +2,8 @@
 use Prim.Native.Nat.{ℕ}
 use mathlib.Core.Path.{_≡_}
 use mathlib.Core.Bool.{Bool}
-use mathlib.Core.List.{List}
 use Rattle.pusher.specs.Record.{number, halts}
+use Rattle.pusher.specs.Loan.{PusherLoan}
 use Rattle.pusher.specs.Moving.{pushOf}
 use Rattle.pusher.specs.declared.record.Setup.{Setup}
 use Rattle.pusher.specs.declared.record.PusherError.{PusherError}
@@ -17,6 +17,6 @@ Numbers e r = r ≡ number e
 abbrev pub Halts : Pusher → Bool → Type 0
 Halts p r = r ≡ halts (p .error)
 
--- `push`, of a set-up, a pusher, words and IB entries
-abbrev pub Moves : Setup → Pusher → List ℕ → List ℕ → Pushed → Type 0
-Moves s p ws es r = r ≡ pushOf s p ws es
+-- `push`, of a set-up, a pusher and what it is lent
+abbrev pub Moves : Setup → Pusher → PusherLoan → Pushed → Type 0
+Moves s p l r = r ≡ pushOf s p l

@@ -3,14 +3,14 @@ use Prim.Native.Nat.{ℕ}
 use mathlib.Core.List.{List, [], _∷_}
 use lib.Dec.{eqb}
 use lib.ListN.{getD}
-use Rattle.word.specs.Parts.{Part, holds, address, spare, numbersIn}
+use Rattle.word.specs.Parts.{Part, carries, address, spare, numbersIn}
 use Rattle.pusher.specs.declared.entry.Entry.{Entry}
 
 -- "IB entry (64 bits): address bits 39-2, NOT_MAIN bit 41, size in words bits 63-42; bits 0, 1, 40 ignored."
 unfoldable pub parts : List Part
-parts = holds 63 42 ∷ holds 41 41 ∷ spare 40 40 ∷ address 39 2 ∷ spare 1 0 ∷ []
+parts = carries 63 42 ∷ carries 41 41 ∷ spare 40 40 ∷ address 39 2 ∷ spare 1 0 ∷ []
 
--- the entry that has these numbers, in the order in which the word holds them
+-- the entry that has these numbers, in the order in which the word carries them
 abbrev entryWith : List ℕ → Entry
 entryWith ns = record { address = getD ns 2 0; size = getD ns 0 0; nonmain = eqb (getD ns 1 0) 1 }
 

@@ -15,7 +15,8 @@ use Rattle.event.specs.declared.Kind.{Kind}
 use Rattle.event.specs.declared.Kind.the-variants as kind
 use Rattle.event.specs.declared.Method.{Method}
 use Rattle.event.specs.declared.Event.the-variants.{Plain, Of}
-use Rattle.pusher.specs.Record.{halts, withError, withGet, withRun, withSubroutine, withIb, withMain, withActive}
+use Rattle.pusher.specs.Loan.{PusherLoan}
+use Rattle.pusher.specs.Record.{halts, withError, withGet, withPut, withRun, withCount, withMethod, withAwaited, withSubroutine, withIb, withMain, withActive}
 use Rattle.pusher.specs.Entry.{entryOf}
 use Rattle.pusher.specs.declared.record.Setup.{Setup}
 use Rattle.pusher.specs.declared.record.PusherError.{PusherError}
@@ -49,11 +50,11 @@ unfoldable pub entryRole : Pusher → List ℕ → Role
 entryRole p es = choose (leb (length es) (p .ib .get)) faults enters
 
 -- "Read address unequal to put: reads one word. IB mode, ib_get unequal to ib_put: reads one entry. Idle."
-unfoldable pub role : Setup → Pusher → List ℕ → List ℕ → Role
-role s p ws es =
+unfoldable pub role : Setup → Pusher → PusherLoan → Role
+role s p l =
     choose (halts (p .error)) halted
-    (choose (not (eqb (p .get) (p .put))) (wordRole s p ws)
-    (choose (eqb (s .setting .mode .number) 1 && not (eqb (p .ib .get) (p .ib .put))) (entryRole p es)
+    (choose (not (eqb (p .get) (p .put))) (wordRole s p (l .words))
+    (choose (eqb (s .setting .mode .number) 1 && not (eqb (p .ib .get) (p .ib .put))) (entryRole p (l .entries))
     idles))
 
 -- what a move says by itself
@@ -75,10 +76,7 @@ advanced s p =
 
 -- "the low 24 bits of the next word are the count"
 unfoldable pub counted : Pusher → ℕ → Pushed
-counted p w =
-    quietly
-    (withRun p (record { count = bits 23 0 w; method = p .run .method; subchannel = p .run .subchannel; increasing = p .run .increasing; awaited = false }))
-    kind.Count
+counted p w = quietly (withRun p (withAwaited (withCount (p .run) (bits 23 0 w)) false)) kind.Count
 
 -- "Each parameter submits its method": 4 times the method's number
 abbrev pub methodOf : Pusher → ℕ → Method
@@ -88,15 +86,15 @@ methodOf p w = record { subchannel = p .run .subchannel; method = 4 * p .run .me
 abbrev pub rises : Pusher → ℕ
 rises p = choose (p .run .increasing) ((p .run .method + 1) % 2048) (p .run .method)
 
+-- the run past a parameter
 abbrev pub usedUp : Pusher → Pusher
-usedUp p =
-    withRun p (record { count = p .run .count - 1; method = rises p; subchannel = p .run .subchannel; increasing = p .run .increasing; awaited = p .run .awaited })
+usedUp p = withRun p (withMethod (withCount (p .run) (p .run .count - 1)) (rises p))
 
 -- "A method below 0x100 that the level lacks is NON_CACHE, tested before SLI discard." "If SLI is enabled and not active, the
 -- method is discarded; else the puller takes it in the same step."
 unfoldable pub parameterOf : Setup → Pusher → ℕ → Pushed
 parameterOf s p w =
-    choose (not (presentOf (s .setting .level .number) (4 * p .run .method))) (failedBy p cause.NonCache)
+    choose (not (presentOf (s .setting .level .number) (p .run .method))) (failedBy p cause.NonCache)
     (choose (s .setting .sli && not (p .sli .active)) (record { pusher = usedUp p; did = did.Event (Of kind.Discard (methodOf p w)) })
     (record { pusher = usedUp p; did = did.Submit (methodOf p w) }))
 
@@ -152,16 +150,8 @@ nextIndex order i = (i + 1) % 2 ^ choose (ltb 12 order) 12 order
 -- "Put is address plus 4 times size modulo 2^40." "When NOT_MAIN is clear, dma_mget takes the address"
 unfoldable pub prepared : Pusher → Entry → Pusher
 prepared p e =
-    record {
-      get = e .address;
-      put = (e .address + 4 * e .size) % 2 ^ 40;
-      run = p .run;
-      subroutine = p .subroutine;
-      ib = p .ib;
-      main = record { nonmain = e .nonmain; mget = choose (e .nonmain) (p .main .mget) (e .address); valid = p .main .valid };
-      sli = p .sli;
-      error = p .error;
-    }
+    withMain (withPut (withGet p (e .address)) ((e .address + 4 * e .size) % 2 ^ 40))
+    (record { nonmain = e .nonmain; mget = choose (e .nonmain) (p .main .mget) (e .address); valid = p .main .valid })
 
 -- "Size 0: error IB after that rise, nothing else changes."
 unfoldable pub entered : Pusher → Entry → Pushed
@@ -172,14 +162,14 @@ abbrev pub wordAt : Pusher → List ℕ → ℕ
 wordAt p ws = getD ws (p .get / 4) 0
 
 -- "g stays. Otherwise the read address rises by 4 first."
-unfoldable pub act : Setup → Pusher → List ℕ → List ℕ → Role → Pushed
-act s p ws es halted = quietly p kind.Stopped
-act s p ws es faults = failedBy p cause.Protection
-act s p ws es counts = counted (advanced s p) (wordAt p ws)
-act s p ws es submits = parameterOf s (advanced s p) (wordAt p ws)
-act s p ws es commands = commanded (advanced s p) (readOf (s .setting) (wordAt p ws) 0)
-act s p ws es enters = entered (withIb p (nextIndex (s .order) (p .ib .get)) (p .ib .put)) (entryOf (getD es (p .ib .get) 0))
-act s p ws es idles = quietly p kind.Idle
+unfoldable pub act : Setup → Pusher → PusherLoan → Role → Pushed
+act s p l halted = quietly p kind.Stopped
+act s p l faults = failedBy p cause.Protection
+act s p l counts = counted (advanced s p) (wordAt p (l .words))
+act s p l submits = parameterOf s (advanced s p) (wordAt p (l .words))
+act s p l commands = commanded (advanced s p) (readOf (s .setting) (wordAt p (l .words)) 0)
+act s p l enters = entered (withIb p (nextIndex (s .order) (p .ib .get)) (p .ib .put)) (entryOf (getD (l .entries) (p .ib .get) 0))
+act s p l idles = quietly p kind.Idle
 
-unfoldable pub pushOf : Setup → Pusher → List ℕ → List ℕ → Pushed
-pushOf s p ws es = act s p ws es (role s p ws es)
+unfoldable pub pushOf : Setup → Pusher → PusherLoan → Pushed
+pushOf s p l = act s p l (role s p l)

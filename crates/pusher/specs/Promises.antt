@@ -3,7 +3,6 @@
 use Prim.Native.Nat.{ℕ, _+_, _-_, _*_, _/_, _%_, _^_, _≤_, _<_}
 use mathlib.Core.Path.{_≡_}
 use mathlib.Core.Bool.{Bool, true, false}
-use mathlib.Core.List.{List}
 use mathlib.Core.Logic.{_⊎_, _↔_}
 use lib.ListN.{length, getD}
 use Rattle.word.specs.Contracts.{Reads, Presents}
@@ -12,7 +11,8 @@ use Rattle.word.specs.declared.reading.Reading.{Reading}
 use Rattle.word.specs.declared.reading.Reading.the-variants.{Increasing, NonIncreasing, Sli, Return, Long, OldJump, Jump, Call}
 use Rattle.event.specs.declared.Kind.the-variants as kind
 use Rattle.event.specs.declared.Event.the-variants.{Of}
-use Rattle.pusher.specs.Record.{number, withGet, withRun, withSubroutine, withIb, withMain, withActive}
+use Rattle.pusher.specs.Loan.{PusherLoan}
+use Rattle.pusher.specs.Record.{number, withGet, withPut, withRun, withCount, withMethod, withAwaited, withSubroutine, withIb, withMain, withActive}
 use Rattle.pusher.specs.Entry.{entryOf}
 use Rattle.pusher.specs.Moving.{commands, submits, role, quietly, failedBy}
 use Rattle.pusher.specs.Contracts.{Numbers, Halts, Moves}
@@ -32,12 +32,12 @@ abbrev pub InIb : Setup → Type 0
 InIb s = s .setting .mode .number ≡ 1
 
 -- "Read address unequal to put: reads one word", w, which is neither above the limit nor beyond the lent words
-pub record WordRead (s : Setup) (p : Pusher) (ws : List ℕ) (w : ℕ) : Type 0 where
+pub record WordRead (s : Setup) (p : Pusher) (l : PusherLoan) (w : ℕ) : Type 0 where
   pub running : Running p
   pub unequal : p .get ≡ p .put → ⊥
   pub limit : p .get ≤ s .limit
-  pub lent : p .get / 4 < length ws
-  pub word : w ≡ getD ws (p .get / 4) 0
+  pub lent : p .get / 4 < length (l .words)
+  pub word : w ≡ getD (l .words) (p .get / 4) 0
 
 -- "Otherwise the read address rises by 4 first": q is the pusher past the word. "When NOT_MAIN is clear, ... each advance
 -- copies the read address to it and sets its valid flag. NV04-style leaves it."
@@ -47,8 +47,8 @@ pub record Past (s : Setup) (p q : Pusher) : Type 0 where
   pub main : InIb s → p .main .nonmain ≡ false → q ≡ withMain (withGet p (p .get + 4)) (record { nonmain = false; mget = p .get + 4; valid = true })
 
 -- "else a parameter while the count isn't used up"
-pub record ParameterRead (s : Setup) (p q : Pusher) (ws : List ℕ) (w : ℕ) : Type 0 where
-  pub read : WordRead s p ws w
+pub record ParameterRead (s : Setup) (p q : Pusher) (l : PusherLoan) (w : ℕ) : Type 0 where
+  pub read : WordRead s p l w
   pub past : Past s p q
   pub unawaited : p .run .awaited ≡ false
   pub left : p .run .count ≡ 0 → ⊥
@@ -60,12 +60,12 @@ pub record Rises (r : Run) (n : ℕ) : Type 0 where
 
 -- the run with one parameter less
 abbrev pub lessOne : Run → ℕ → Run
-lessOne r n = record { count = r .count - 1; method = n; subchannel = r .subchannel; increasing = r .increasing; awaited = r .awaited }
+lessOne r n = withMethod (withCount r (r .count - 1)) n
 
 -- "else a command", which reads as x
-pub record CommandRead (s : Setup) (p q : Pusher) (ws : List ℕ) (x : Reading) : Type 0 where
+pub record CommandRead (s : Setup) (p q : Pusher) (l : PusherLoan) (x : Reading) : Type 0 where
   pub word : ℕ
-  pub read : WordRead s p ws word
+  pub read : WordRead s p l word
   pub past : Past s p q
   pub unawaited : p .run .awaited ≡ false
   pub none-left : p .run .count ≡ 0
@@ -86,10 +86,10 @@ pub record EntryNext (s : Setup) (p : Pusher) : Type 0 where
 
 -- the entry e, which is not past the lent ones, and "ib_get rises by 1 modulo 2^ib_order" to i; an order above 12, which no
 -- opening takes, would count as 12
-pub record EntryRead (s : Setup) (p : Pusher) (es : List ℕ) (e i : ℕ) : Type 0 where
+pub record EntryRead (s : Setup) (p : Pusher) (l : PusherLoan) (e i : ℕ) : Type 0 where
   pub next : EntryNext s p
-  pub lent : p .ib .get < length es
-  pub entry : e ≡ getD es (p .ib .get) 0
+  pub lent : p .ib .get < length (l .entries)
+  pub entry : e ≡ getD (l .entries) (p .ib .get) 0
   pub rises : s .order ≤ 12 → i ≡ (p .ib .get + 1) % 2 ^ s .order
   pub rises-over : 12 < s .order → i ≡ (p .ib .get + 1) % 2 ^ 12
 
@@ -103,62 +103,50 @@ sizeIn e = e / 2 ^ 42 % 2 ^ 22
 -- the pushbuffer that the entry e describes: "Put is address plus 4 times size modulo 2^40."
 abbrev pub atEntry : Pusher → ℕ → Bool → ℕ → Pusher
 atEntry p e nonmain mget =
-    record {
-      get = addressIn e;
-      put = (addressIn e + 4 * sizeIn e) % 2 ^ 40;
-      run = p .run;
-      subroutine = p .subroutine;
-      ib = p .ib;
-      main = record { nonmain = nonmain; mget = mget; valid = p .main .valid };
-      sli = p .sli;
-      error = p .error;
-    }
+    withMain (withPut (withGet p (addressIn e)) ((addressIn e + 4 * sizeIn e) % 2 ^ 40)) (record { nonmain = nonmain; mget = mget; valid = p .main .valid })
 
 -- The sentences, of any relation R between what a move is given and what it leaves: what changes, and nothing else does.
-pub record Sentences (R : Setup → Pusher → List ℕ → List ℕ → Pushed → Type 0) : Type 0 where
+pub record Sentences (R : Setup → Pusher → PusherLoan → Pushed → Type 0) : Type 0 where
   -- "Stopped by an error: answers stopped, nothing changes."
-  pub stopped : (s : Setup) (p : Pusher) (ws es : List ℕ) (r : Pushed) → R s p ws es r → (Running p → ⊥) → r ≡ quietly p kind.Stopped
+  pub stopped : (s : Setup) (p : Pusher) (l : PusherLoan) (r : Pushed) → R s p l r → (Running p → ⊥) → r ≡ quietly p kind.Stopped
   -- "Idle."
   pub idle :
-      (s : Setup) (p : Pusher) (ws es : List ℕ) (r : Pushed)
-      → R s p ws es r
+      (s : Setup) (p : Pusher) (l : PusherLoan) (r : Pushed)
+      → R s p l r
       → Running p
       → p .get ≡ p .put
       → ((InIb s → ⊥) ⊎ (p .ib .get ≡ p .ib .put))
       → r ≡ quietly p kind.Idle
   -- "A word at address g faults with PROTECTION if g is above dma_limit, in either mode, or beyond the lent words; g stays."
   pub protection :
-      (s : Setup) (p : Pusher) (ws es : List ℕ) (r : Pushed)
-      → R s p ws es r
+      (s : Setup) (p : Pusher) (l : PusherLoan) (r : Pushed)
+      → R s p l r
       → Running p
       → (p .get ≡ p .put → ⊥)
-      → ((s .limit < p .get) ⊎ (length ws ≤ p .get / 4))
+      → ((s .limit < p .get) ⊎ (length (l .words) ≤ p .get / 4))
       → r ≡ failedBy p cause.Protection
   -- "The word is the count if a long form waits for one": "the low 24 bits of the next word are the count"
   pub count :
-      (s : Setup) (p q : Pusher) (ws es : List ℕ) (w : ℕ) (r : Pushed)
-      → R s p ws es r
-      → WordRead s p ws w
+      (s : Setup) (p q : Pusher) (l : PusherLoan) (w : ℕ) (r : Pushed)
+      → R s p l r
+      → WordRead s p l w
       → Past s p q
       → p .run .awaited ≡ true
-      → r
-      ≡ quietly
-      (withRun q (record { count = w % 2 ^ 24; method = p .run .method; subchannel = p .run .subchannel; increasing = p .run .increasing; awaited = false }))
-      kind.Count
+      → r ≡ quietly (withRun q (withAwaited (withCount (p .run) (w % 2 ^ 24)) false)) kind.Count
   -- "A method below 0x100 that the level lacks is NON_CACHE, tested before SLI discard."
   pub non-cache :
-      (s : Setup) (p q : Pusher) (ws es : List ℕ) (w : ℕ) (r : Pushed)
-      → R s p ws es r
-      → ParameterRead s p q ws w
-      → Presents (s .setting .level) (4 * p .run .method) false
+      (s : Setup) (p q : Pusher) (l : PusherLoan) (w : ℕ) (r : Pushed)
+      → R s p l r
+      → ParameterRead s p q l w
+      → Presents (s .setting .level) (p .run .method) false
       → r ≡ failedBy q cause.NonCache
   -- "If SLI is enabled and not active, the method is discarded"
   pub discard :
-      (s : Setup) (p q : Pusher) (ws es : List ℕ) (w n : ℕ) (r : Pushed)
-      → R s p ws es r
-      → ParameterRead s p q ws w
+      (s : Setup) (p q : Pusher) (l : PusherLoan) (w n : ℕ) (r : Pushed)
+      → R s p l r
+      → ParameterRead s p q l w
       → Rises (p .run) n
-      → Presents (s .setting .level) (4 * p .run .method) true
+      → Presents (s .setting .level) (p .run .method) true
       → s .setting .sli ≡ true
       → p .sli .active ≡ false
       → r
@@ -168,11 +156,11 @@ pub record Sentences (R : Setup → Pusher → List ℕ → List ℕ → Pushed 
       }
   -- "Each parameter submits its method": "else the puller takes it in the same step"
   pub submit :
-      (s : Setup) (p q : Pusher) (ws es : List ℕ) (w n : ℕ) (r : Pushed)
-      → R s p ws es r
-      → ParameterRead s p q ws w
+      (s : Setup) (p q : Pusher) (l : PusherLoan) (w n : ℕ) (r : Pushed)
+      → R s p l r
+      → ParameterRead s p q l w
       → Rises (p .run) n
-      → Presents (s .setting .level) (4 * p .run .method) true
+      → Presents (s .setting .level) (p .run .method) true
       → ((s .setting .sli ≡ false) ⊎ (p .sli .active ≡ true))
       → r
       ≡ record {
@@ -181,107 +169,107 @@ pub record Sentences (R : Setup → Pusher → List ℕ → List ℕ → Pushed 
       }
   -- "A command with count 0 does nothing."
   pub nothing :
-      (s : Setup) (p q : Pusher) (ws es : List ℕ) (x : Reading) (b m : ℕ) (r : Pushed)
-      → R s p ws es r
-      → CommandRead s p q ws x
+      (s : Setup) (p q : Pusher) (l : PusherLoan) (x : Reading) (b m : ℕ) (r : Pushed)
+      → R s p l r
+      → CommandRead s p q l x
       → ((x ≡ Increasing 0 b m) ⊎ (x ≡ NonIncreasing 0 b m))
       → r ≡ quietly q kind.Command
   -- "increasing. Count ..., subchannel ..., method"
   pub increasing :
-      (s : Setup) (p q : Pusher) (ws es : List ℕ) (c b n : ℕ) (r : Pushed)
-      → R s p ws es r
-      → CommandRead s p q ws (Increasing c b (4 * n))
+      (s : Setup) (p q : Pusher) (l : PusherLoan) (c b n : ℕ) (r : Pushed)
+      → R s p l r
+      → CommandRead s p q l (Increasing c b (4 * n))
       → (c ≡ 0 → ⊥)
       → r ≡ quietly (withRun q (record { count = c; method = n; subchannel = b; increasing = true; awaited = false })) kind.Command
   pub non-increasing :
-      (s : Setup) (p q : Pusher) (ws es : List ℕ) (c b n : ℕ) (r : Pushed)
-      → R s p ws es r
-      → CommandRead s p q ws (NonIncreasing c b (4 * n))
+      (s : Setup) (p q : Pusher) (l : PusherLoan) (c b n : ℕ) (r : Pushed)
+      → R s p l r
+      → CommandRead s p q l (NonIncreasing c b (4 * n))
       → (c ≡ 0 → ⊥)
       → r ≡ quietly (withRun q (record { count = c; method = n; subchannel = b; increasing = false; awaited = false })) kind.Command
   -- "long non-increasing", which then waits for its count
   pub long :
-      (s : Setup) (p q : Pusher) (ws es : List ℕ) (b n c : ℕ) (r : Pushed)
-      → R s p ws es r
-      → CommandRead s p q ws (Long b (4 * n) c)
+      (s : Setup) (p q : Pusher) (l : PusherLoan) (b n c : ℕ) (r : Pushed)
+      → R s p l r
+      → CommandRead s p q l (Long b (4 * n) c)
       → r ≡ quietly (withRun q (record { count = 0; method = n; subchannel = b; increasing = false; awaited = true })) kind.Command
   -- "An SLI conditional sets sli_active exactly if its mask and the channel's share a set bit, else clears it."
   pub sli :
-      (s : Setup) (p q : Pusher) (ws es : List ℕ) (k : ℕ) (active : Bool) (r : Pushed)
-      → R s p ws es r
-      → CommandRead s p q ws (Sli k)
+      (s : Setup) (p q : Pusher) (l : PusherLoan) (k : ℕ) (active : Bool) (r : Pushed)
+      → R s p l r
+      → CommandRead s p q l (Sli k)
       → active ≡ true ↔ Share k (p .sli .mask)
       → r ≡ quietly (withActive q active) kind.Command
   -- "Jump, call and return are as in document 004": "jump [sets dma_get to param]",
   pub jump :
-      (s : Setup) (p q : Pusher) (ws es : List ℕ) (x : Reading) (t : ℕ) (r : Pushed)
-      → R s p ws es r
-      → CommandRead s p q ws x
+      (s : Setup) (p q : Pusher) (l : PusherLoan) (x : Reading) (t : ℕ) (r : Pushed)
+      → R s p l r
+      → CommandRead s p q l x
       → ((x ≡ OldJump t) ⊎ (x ≡ Jump t))
       → r ≡ quietly (withGet q t) kind.Command
   -- "call [copies dma_get to subr_return, sets subr_active and sets dma_get to param]": the address past the call's word;
   pub call :
-      (s : Setup) (p q : Pusher) (ws es : List ℕ) (t : ℕ) (r : Pushed)
-      → R s p ws es r
-      → CommandRead s p q ws (Call t)
+      (s : Setup) (p q : Pusher) (l : PusherLoan) (t : ℕ) (r : Pushed)
+      → R s p l r
+      → CommandRead s p q l (Call t)
       → p .subroutine .active ≡ false
       → r ≡ quietly (withGet (withSubroutine q true ((p .get + 4) % 2 ^ 32)) t) kind.Command
   -- "1 CALL: call command while subroutine active". "Errors 1 to 4 leave the read address past the word, dma_mget following it
   -- by the rule below, all else as before."
   pub call-inside :
-      (s : Setup) (p q : Pusher) (ws es : List ℕ) (t : ℕ) (r : Pushed)
-      → R s p ws es r
-      → CommandRead s p q ws (Call t)
+      (s : Setup) (p q : Pusher) (l : PusherLoan) (t : ℕ) (r : Pushed)
+      → R s p l r
+      → CommandRead s p q l (Call t)
       → p .subroutine .active ≡ true
       → r ≡ failedBy q cause.Call
   -- "return [unsets subr_active, copies subr_return to dma_get]";
   pub return :
-      (s : Setup) (p q : Pusher) (ws es : List ℕ) (r : Pushed)
-      → R s p ws es r
-      → CommandRead s p q ws Return
+      (s : Setup) (p q : Pusher) (l : PusherLoan) (r : Pushed)
+      → R s p l r
+      → CommandRead s p q l Return
       → p .subroutine .active ≡ true
       → r ≡ quietly (withGet (withSubroutine q false (p .subroutine .back)) (p .subroutine .back)) kind.Command
   -- "3 RETURN: return command while subroutine inactive"
   pub return-outside :
-      (s : Setup) (p q : Pusher) (ws es : List ℕ) (r : Pushed)
-      → R s p ws es r
-      → CommandRead s p q ws Return
+      (s : Setup) (p q : Pusher) (l : PusherLoan) (r : Pushed)
+      → R s p l r
+      → CommandRead s p q l Return
       → p .subroutine .active ≡ false
       → r ≡ failedBy q cause.Return
   -- "4 RESERVED_CMD": reserved, number 9, and the reading at a setting that is refused, number 10
   pub reserved :
-      (s : Setup) (p q : Pusher) (ws es : List ℕ) (x : Reading) (r : Pushed)
-      → R s p ws es r
-      → CommandRead s p q ws x
+      (s : Setup) (p q : Pusher) (l : PusherLoan) (x : Reading) (r : Pushed)
+      → R s p l r
+      → CommandRead s p q l x
       → 9 ≤ reading.number x
       → r ≡ failedBy q cause.ReservedCmd
   -- "An index past the lent entries is PROTECTION and ib_get stays."
   pub no-entry :
-      (s : Setup) (p : Pusher) (ws es : List ℕ) (r : Pushed)
-      → R s p ws es r
+      (s : Setup) (p : Pusher) (l : PusherLoan) (r : Pushed)
+      → R s p l r
       → EntryNext s p
-      → length es ≤ p .ib .get
+      → length (l .entries) ≤ p .ib .get
       → r ≡ failedBy p cause.Protection
   -- "Size 0: error IB after that rise, nothing else changes."
   pub empty-entry :
-      (s : Setup) (p : Pusher) (ws es : List ℕ) (e i : ℕ) (r : Pushed)
-      → R s p ws es r
-      → EntryRead s p es e i
+      (s : Setup) (p : Pusher) (l : PusherLoan) (e i : ℕ) (r : Pushed)
+      → R s p l r
+      → EntryRead s p l e i
       → sizeIn e ≡ 0
       → r ≡ failedBy (withIb p i (p .ib .put)) cause.Ib
   -- "Put is address plus 4 times size modulo 2^40."
   pub entry-not-main :
-      (s : Setup) (p : Pusher) (ws es : List ℕ) (e i : ℕ) (r : Pushed)
-      → R s p ws es r
-      → EntryRead s p es e i
+      (s : Setup) (p : Pusher) (l : PusherLoan) (e i : ℕ) (r : Pushed)
+      → R s p l r
+      → EntryRead s p l e i
       → (sizeIn e ≡ 0 → ⊥)
       → e / 2 ^ 41 % 2 ≡ 1
       → r ≡ quietly (atEntry (withIb p i (p .ib .put)) e true (p .main .mget)) kind.Entry
   -- "When NOT_MAIN is clear, dma_mget takes the address"
   pub entry-main :
-      (s : Setup) (p : Pusher) (ws es : List ℕ) (e i : ℕ) (r : Pushed)
-      → R s p ws es r
-      → EntryRead s p es e i
+      (s : Setup) (p : Pusher) (l : PusherLoan) (e i : ℕ) (r : Pushed)
+      → R s p l r
+      → EntryRead s p l e i
       → (sizeIn e ≡ 0 → ⊥)
       → e / 2 ^ 41 % 2 ≡ 0
       → r ≡ quietly (atEntry (withIb p i (p .ib .put)) e false (addressIn e)) kind.Entry
@@ -293,17 +281,17 @@ Pushes = Sentences Moves
 -- and they leave no case open: whatever does what they say does what `push` does.
 abbrev pub NoOther : Type 1
 NoOther =
-    (R : Setup → Pusher → List ℕ → List ℕ → Pushed → Type 0)
+    (R : Setup → Pusher → PusherLoan → Pushed → Type 0)
     → Sentences R
-    → (s : Setup) (p : Pusher) (ws es : List ℕ) (r : Pushed)
-    → R s p ws es r
-    → Moves s p ws es r
+    → (s : Setup) (p : Pusher) (l : PusherLoan) (r : Pushed)
+    → R s p l r
+    → Moves s p l r
 
 -- "Errors 1 to 4 leave the read address past the word, dma_mget following it by the rule below, all else as before."
 abbrev pub Failing : Type 0
 Failing =
-    (s : Setup) (p q : Pusher) (ws es : List ℕ) (r : Pushed)
-    → Moves s p ws es r
+    (s : Setup) (p q : Pusher) (l : PusherLoan) (r : Pushed)
+    → Moves s p l r
     → Running p
     → 1 ≤ number (r .pusher .error)
     → number (r .pusher .error) ≤ 4
@@ -311,15 +299,15 @@ Failing =
     → r ≡ failedBy q (r .pusher .error)
 
 -- the word at the read address is about to be read as a command, or as a parameter: what the move's own definition goes by
-abbrev pub ReadsCommand : Setup → Pusher → List ℕ → List ℕ → Type 0
-ReadsCommand s p ws es = role s p ws es ≡ commands
+abbrev pub ReadsCommand : Setup → Pusher → PusherLoan → Type 0
+ReadsCommand s p l = role s p l ≡ commands
 
-abbrev pub ReadsParameter : Setup → Pusher → List ℕ → List ℕ → Type 0
-ReadsParameter s p ws es = role s p ws es ≡ submits
+abbrev pub ReadsParameter : Setup → Pusher → PusherLoan → Type 0
+ReadsParameter s p l = role s p l ≡ submits
 
 -- Each contract leaves one outcome.
 pub record One : Type 0 where
-  pub push : (s : Setup) (p : Pusher) (ws es : List ℕ) (a b : Pushed) → Moves s p ws es a → Moves s p ws es b → a ≡ b
+  pub push : (s : Setup) (p : Pusher) (l : PusherLoan) (a b : Pushed) → Moves s p l a → Moves s p l b → a ≡ b
   pub number : (e : PusherError) (a b : ℕ) → Numbers e a → Numbers e b → a ≡ b
   pub stopped : (p : Pusher) (a b : Bool) → Halts p a → Halts p b → a ≡ b
 

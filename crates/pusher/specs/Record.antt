@@ -1,4 +1,4 @@
--- The pusher's record: its errors' numbers, and the record with one thing changed.
+-- The pusher's record: its errors' numbers, and the record, or its run, with one thing changed.
 use Prim.Native.Nat.{ℕ}
 use mathlib.Core.Bool.{Bool, not}
 use lib.Dec.{eqb}
@@ -33,6 +33,15 @@ withPut p a = record { get = p .get; put = a; run = p .run; subroutine = p .subr
 
 abbrev pub withRun : Pusher → Run → Pusher
 withRun p r = record { get = p .get; put = p .put; run = r; subroutine = p .subroutine; ib = p .ib; main = p .main; sli = p .sli; error = p .error }
+
+abbrev pub withCount : Run → ℕ → Run
+withCount r c = record { count = c; method = r .method; subchannel = r .subchannel; increasing = r .increasing; awaited = r .awaited }
+
+abbrev pub withMethod : Run → ℕ → Run
+withMethod r n = record { count = r .count; method = n; subchannel = r .subchannel; increasing = r .increasing; awaited = r .awaited }
+
+abbrev pub withAwaited : Run → Bool → Run
+withAwaited r a = record { count = r .count; method = r .method; subchannel = r .subchannel; increasing = r .increasing; awaited = a }
 
 abbrev pub withSubroutine : Pusher → Bool → ℕ → Pusher
 withSubroutine p a b = record { get = p .get; put = p .put; run = p .run; subroutine = record { active = a; back = b }; ib = p .ib; main = p .main; sli = p .sli; error = p .error }

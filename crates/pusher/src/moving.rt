@@ -1,9 +1,9 @@
 // One move of the pusher.
 ghost use mathlib.Core.Path.{_≡_};
-ghost use mathlib.Core.List.{List};
-ghost use Prim.Native.Nat.{ℕ, _≤_, _<_};
+ghost use Prim.Native.Nat.{_≤_, _<_};
 ghost use Rattle.word.specs.Reading.{number, readOf};
 ghost use Rattle.word.specs.Promises.{Within};
+ghost use Rattle.pusher.specs.Loan.{PusherLoan, toPusher, withWords, withEntries};
 ghost use Rattle.pusher.specs.Moving.{wordRole, entryRole, act, quietly, failedBy, advanced, counted, parameterOf, usedUp, commanded, begun, conditional, jumped, called, returned, nextIndex, prepared};
 ghost use Rattle.pusher.specs.Contracts.{Moves};
 use crate::entry::Entry;
@@ -33,7 +33,7 @@ pub struct Pushed {
 // Reads one word where the read address is not put, else one IB entry where there is one; stopped
 // by its error, or idle, it changes nothing. A setting that is refused has reserved words only.
 pub fn push(setup: Setup, pusher: Pusher, words: &[u32], entries: &[u64]) -> Pushed
-    ensures { λ r. ⌜ Moves setup pusher (now (words .entry)) (now (entries .entry)) r ⌝ }
+    ensures { λ r. ⌜ Moves setup pusher (toPusher (now (words .entry)) (now (entries .entry))) r ⌝ }
 {
     if pusher.stopped() {
         return quiet(pusher, Kind::Stopped);
@@ -67,9 +67,10 @@ fn failed(pusher: Pusher, error: PusherError) -> Pushed
     quiet(pusher.with_error(error), Kind::Error)
 }
 
-// Reads the word at the read address, unless that is above the limit or beyond the lent words.
+// Reads the word at the read address, unless that is above the limit or beyond the lent words,
+// whatever else is lent.
 fn word(setup: Setup, pusher: Pusher, words: &[u32]) -> Pushed
-    ensures { λ r. ⌜ ((es : List ℕ) → r ≡ act setup pusher (now (words .entry)) es (wordRole setup pusher (now (words .entry)))) ⌝ }
+    ensures { λ r. ⌜ ((l : PusherLoan) → r ≡ act setup pusher (withWords l (now (words .entry))) (wordRole setup pusher (now (words .entry)))) ⌝ }
 {
     let get = pusher.get;
     if (setup.limit as u64) < get {
@@ -134,7 +135,7 @@ fn parameter(setup: Setup, pusher: Pusher, word: u32) -> Pushed
         parameter: word,
     };
     let level = setup.setting.level;
-    if !present(level, 4 * number) {
+    if !present(level, number) {
         return failed(pusher, PusherError::NonCache);
     }
     let next = used_up(pusher);
@@ -280,9 +281,9 @@ fn go_back(pusher: Pusher) -> Pushed
     quiet(next, Kind::Command)
 }
 
-// Reads the IB entry at ib_get, unless that is past the lent entries.
+// Reads the IB entry at ib_get, unless that is past the lent entries, whatever else is lent.
 fn entry(setup: Setup, pusher: Pusher, entries: &[u64]) -> Pushed
-    ensures { λ r. ⌜ ((ws : List ℕ) → r ≡ act setup pusher ws (now (entries .entry)) (entryRole pusher (now (entries .entry)))) ⌝ }
+    ensures { λ r. ⌜ ((l : PusherLoan) → r ≡ act setup pusher (withEntries l (now (entries .entry))) (entryRole pusher (now (entries .entry)))) ⌝ }
 {
     let place = pusher.ib.get as usize;
     if entries.len() <= place {

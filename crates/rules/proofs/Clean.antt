@@ -11,18 +11,21 @@ use lib.ListN.{length, getD}
 use borrow.Author.Tests.{eqb-true, eqb-false, eq-eqb, ne-eqb, ltb-false, le-ltb, not-false}
 use Rattle.word.specs.First.{choose}
 use Rattle.word.specs.Lowest.{lowest, found?}
+use Rattle.word.specs.Reading.{parameterCount}
 use Rattle.word.specs.Special.{presentOf}
-use Rattle.word.proofs.First.{by-test, choose-true, Fails, none-fails}
+use Rattle.word.proofs.First.{by-test, choose-true}
 use Rattle.word.proofs.Lowest.{lowest-none, lowest-some, found-none}
 use Rattle.rules.specs.Permit.{permits}
-use Rattle.rules.specs.Map.{main, marked, unmarked, tooWide, starts, among}
-use Rattle.rules.specs.Parameters.{parametersOf, methodFor, lacking, denied}
-use Rattle.rules.specs.Reason.{reserved?, call?, return?, nexts, arrivalCases, reasonCases, Submission, size, commandAt, firstReason, reasonAt}
-use Rattle.rules.specs.Judging.{firstOf, placeVerdict, startVerdict, atMark, placeOf, stateOf, refusedPair, rejected, pairVerdict, verdictOf}
+use Rattle.rules.specs.Map.{main, marked, unmarked, overThree, starts, among}
+use Rattle.rules.specs.Parameters.{placeAfter, methodsOf, methodFor, anyFails, lacking, denied}
+use Rattle.rules.specs.Next.{_in-state_}
+use Rattle.rules.specs.Reason.{reserved?, call?, return?, Submission, size, commandAt, byMap, reasonAt}
+use Rattle.rules.specs.Judging.{firstOf, placeVerdict, startVerdict, atMark, placeOf, stateOf, refusedPair, refusedAt, numberedPair, firstRefused, pairVerdict, verdictOf}
 use Rattle.rules.specs.Path.{Next}
+use Rattle.rules.specs.declared.pair.Pair.{Pair}
 use Rattle.rules.specs.declared.judging.Verdict.{Verdict}
 use Rattle.rules.specs.declared.judging.Verdict.the-variants.{Accepted, Rejected, Refused}
-use Rattle.rules.proofs.Cases.{each-arrival}
+use Rattle.rules.proofs.Cases.{Arrived, quiet}
 
 module _ (x : Submission) (map : List ℕ) where
   -- a pair at which a command starts by the map, or the end, in main
@@ -34,38 +37,38 @@ module _ (x : Submission) (map : List ℕ) where
     pub command : reserved? (commandAt x p) ≡ false
     pub no-call : call? (commandAt x p) && s ≡ false
     pub no-return : return? (commandAt x p) && not s ≡ false
-    pub within : p + 1 + parametersOf (commandAt x p) .count ≤ size x
-    pub present : (k : ℕ) → k < parametersOf (commandAt x p) .count → presentOf (x .setting .level .number) (4 * methodFor (parametersOf (commandAt x p)) k) ≡ true
-    pub allowed : (k : ℕ) → k < parametersOf (commandAt x p) .count → permits (x .permit) (parametersOf (commandAt x p) .subchannel) (methodFor (parametersOf (commandAt x p)) k) ≡ true
-    pub bare : (k : ℕ) → k < parametersOf (commandAt x p) .count → getD map (p + 1 + k) 0 ≡ 0
+    pub within : placeAfter (commandAt x p) p ≤ size x
+    pub present : (k : ℕ) → k < parameterCount (commandAt x p) → presentOf (x .setting .level .number) (methodFor (methodsOf (commandAt x p)) k) ≡ true
+    pub allowed : (k : ℕ) → k < parameterCount (commandAt x p) → permits (x .permit) (methodsOf (commandAt x p) .subchannel) (methodFor (methodsOf (commandAt x p)) k) ≡ true
+    pub bare : (k : ℕ) → k < parameterCount (commandAt x p) → getD map (p + 1 + k) 0 ≡ 0
     pub next : (q : ℕ) (t : Bool) → Next (commandAt x p) p s q t → Good q t
 
-  arrive-good : (q : ℕ) (t : Bool) → Fails (arrivalCases (unmarked map) (size x) q t) → Good q t
+  arrive-good : (q : ℕ) (t : Bool) → Arrived (size x) (q in-state t) (unmarked map (q in-state t)) → Good q t
   unfolding unmarked
-  arrive-good q t f = go (eqb q (size x)) refl t (f .1 .0) (f .1 .1 .0)
+  arrive-good q t f = go (eqb q (size x)) refl t (f .end-inside) (f .unmarked)
     where
       go : (b : Bool) → eqb q (size x) ≡ b → (t : Bool) → b && t ≡ false → not b && not (marked map q t) ≡ false → Good q t
       go true e true g h = absurd (false≢true (sym g))
       go true e false g h = inl (eqb-true _ _ e, refl)
       go false e t g h =
           let ne = eqb-false q (size x) e in
-          let l = ltb-false (size x) q (f .0) in
+          let l = ltb-false (size x) q (f .past) in
           inr (omega arith, not-false _ h)
 
   pub fine : (p : ℕ) (s : Bool) → reasonAt x map p s ≡ none → Fine p s
-  unfolding firstReason lacking denied among starts
+  unfolding lacking denied anyFails among starts
   fine p s e =
-      let f = none-fails (reasonCases (among map) (unmarked map) x (commandAt x p) p s) e in
-      let g = f .1 .1 .1 in
+      let f = quiet (byMap map) x p s .0 e in
+      let own = f .own in
       record {
-        command = f .0;
-        no-call = f .1 .0;
-        no-return = f .1 .1 .0;
-        within = ltb-false _ _ (g .0);
-        present = λ k l. not-false _ (found-none _ _ (g .1 .0) k l);
-        allowed = λ k l. not-false _ (found-none _ _ (g .1 .1 .0) k l);
-        bare = λ k l. eqb-true _ _ (not-false _ (found-none _ _ (g .1 .1 .1 .0) k l));
-        next = λ q t n. arrive-good q t (each-arrival (unmarked map) (size x) (nexts (commandAt x p) p s) (g .1 .1 .1 .1) q t n);
+        command = own .reserved;
+        no-call = own .call-inside;
+        no-return = own .return-outside;
+        within = ltb-false _ _ (own .short);
+        present = λ k l. not-false _ (found-none _ _ (own .lacking) k l);
+        allowed = λ k l. not-false _ (found-none _ _ (own .denied) k l);
+        bare = λ k l. eqb-true _ _ (not-false _ (found-none _ _ (f .among) k l));
+        next = λ q t n. arrive-good q t (f .arrivals q t n);
       }
 
   -- of an accepted map: its bytes, the start, and every marked pair
@@ -107,25 +110,25 @@ module _ (x : Submission) (map : List ℕ) where
       go none q e = q
       go (some n) q e = absurd (false≢true (sym e))
 
-  no-pair : (o : Option ℕ) → lowest (refusedPair x map) (2 * size x) ≡ o → pairVerdict x map o ≡ Accepted → (k : ℕ) → k < 2 * size x → refusedPair x map k ≡ false
-  unfolding pairVerdict refusedPair rejected found?
+  no-pair : (o : Option ℕ) → lowest (refusedPair x map) (2 * size x) ≡ o → pairVerdict (numberedPair x map o) ≡ Accepted → (k : ℕ) → k < 2 * size x → refusedPair x map k ≡ false
+  unfolding numberedPair pairVerdict refusedAt refusedPair found?
   no-pair none q e = lowest-none (refusedPair x map) (2 * size x) .0 q
-  no-pair (some j) q e = go (atMark x map (placeOf j) (stateOf j)) (lowest-some (refusedPair x map) (2 * size x) j .0 q .1) e
+  no-pair (some j) q e = go _ (atMark x map (placeOf j) (stateOf j)) (lowest-some (refusedPair x map) (2 * size x) j .0 q .1) e
     where
-      go : (o : Option ℕ) → found? o ≡ true → rejected o (placeOf j) ≡ Accepted → (k : ℕ) → k < 2 * size x → refusedPair x map k ≡ false
-      go none h e = absurd (false≢true h)
-      go (some n) h e = let z : _≡_ {A = ℕ} 0 1 = cc in absurd (omega arith)
+      go : (a : Pair) (o : Option ℕ) → found? o ≡ true → pairVerdict (refusedAt a o) ≡ Accepted → (k : ℕ) → k < 2 * size x → refusedPair x map k ≡ false
+      go a none h e = absurd (false≢true h)
+      go a (some n) h e = let z : _≡_ {A = ℕ} 0 1 = cc in absurd (omega arith)
 
   -- there is no lowest byte over 3 exactly if no byte is
-  pub none-wide : lowest (tooWide map) (size x) ≡ none ↔ ((p : ℕ) → p < size x → getD map p 0 ≤ 3)
-  unfolding tooWide
+  pub none-wide : lowest (overThree map) (size x) ≡ none ↔ ((p : ℕ) → p < size x → getD map p 0 ≤ 3)
+  unfolding overThree
   none-wide = (
-    λ e p l. ltb-false _ _ (lowest-none (tooWide map) (size x) .0 e p l),
-    λ h. lowest-none (tooWide map) (size x) .1 (λ p l. le-ltb _ _ (h p l)),
+    λ e p l. ltb-false _ _ (lowest-none (overThree map) (size x) .0 e p l),
+    λ h. lowest-none (overThree map) (size x) .1 (λ p l. le-ltb _ _ (h p l)),
   )
 
   pub clean : length map ≡ size x → verdictOf x map ≡ Accepted → Clean
-  unfolding verdictOf refusedPair
+  unfolding verdictOf firstRefused refusedPair
   clean same e =
       let a = both-accept _ _ e in
       let b = both-accept _ _ (a .1) in

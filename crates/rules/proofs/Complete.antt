@@ -3,7 +3,7 @@ use Prim.Native.Nat.{ℕ, _+_, _-_, _*_, _/_, _%_, _≤_, _<_}
 use mathlib.Core.Path.{_≡_, refl, ap}
 use mathlib.Core.Bool.{Bool, true, false, not, _&&_, and-false}
 use mathlib.Core.List.{List}
-use mathlib.Core.Logic.{_⊎_, ⊎-elim, _↔_}
+use mathlib.Core.Logic.{⊎-elim, _↔_}
 use mathlib.Core.Option.{Option, none, some}
 use native.Mathlib.Omega.{arith}
 use lib.Dec.{eqb}
@@ -11,37 +11,22 @@ use lib.ListN.{length, getD}
 use borrow.Author.Tests.{eqb-true, eqb-false, eq-eqb, ltb-false}
 use Rattle.word.specs.First.{choose}
 use Rattle.word.specs.Lowest.{lowest, found?}
-use Rattle.word.proofs.First.{Fails, none-fails, fails-none}
+use Rattle.word.specs.Reading.{parameterCount}
 use Rattle.word.proofs.Lowest.{lowest-none, none-found}
 use Rattle.rules.specs.Map.{main, inside, marked, unmarked, starts, among}
-use Rattle.rules.specs.Parameters.{parametersOf}
-use Rattle.rules.specs.Reason.{NO_START, nexts, arrivalCases, reasonCases, Submission, size, commandAt, firstReason, reasonAt, flawAt}
-use Rattle.rules.specs.Judging.{firstOf, placeVerdict, startVerdict, atMark, placeOf, stateOf, refusedPair, pairVerdict, verdictOf}
+use Rattle.rules.specs.Parameters.{placeAfter}
+use Rattle.rules.specs.Next.{_in-state_}
+use Rattle.rules.specs.Reason.{NO_START, Submission, size, commandAt, byMap, reasonAt, noMap, flawAt}
+use Rattle.rules.specs.Judging.{firstOf, placeVerdict, startVerdict, atMark, placeOf, stateOf, refusedPair, numberedPair, firstRefused, pairVerdict, verdictOf}
 use Rattle.rules.specs.Path.{Next, Reached, origin, onward, Bad, flawed, amid, Exact}
 use Rattle.rules.specs.declared.judging.Verdict.the-variants.{Accepted, Rejected}
-use Rattle.rules.proofs.Cases.{each-arrival, all-arrivals}
+use Rattle.rules.proofs.Cases.{Arrived, quiet}
 use Rattle.rules.proofs.Clean.{fine, Clean, none-wide, mark-none, unstarted}
 
--- the tests of a map that says nothing
-abbrev never₂ : ℕ → ℕ → Bool
-never₂ a c = false
-
-abbrev never : ℕ → Bool → Bool
-never q t = false
-
 module _ (x : Submission) where
-  abbrev flaws : ℕ → Bool → Type 0
-  flaws p s = Fails (reasonCases never₂ never x (commandAt x p) p s)
-
-  unflawed : (p : ℕ) (s : Bool) → flawAt x p s ≡ none → flaws p s
-  unfolding firstReason
-  unflawed p s e = none-fails (reasonCases never₂ never x (commandAt x p) p s) e
-
   -- what a pair without those reasons says of a next pair: it is at most the end
   next-within : (p : ℕ) (s : Bool) (q : ℕ) (t : Bool) → flawAt x p s ≡ none → Next (commandAt x p) p s q t → q ≤ size x
-  next-within p s q t e n =
-      let f = unflawed p s e in
-      ltb-false _ _ (each-arrival never (size x) (nexts (commandAt x p) p s) (f .1 .1 .1 .1 .1 .1 .1) q t n .0)
+  next-within p s q t e n = ltb-false _ _ (quiet noMap x p s .0 e .arrivals q t n .past)
 
   -- what is reached lies before the end
   pub reached-within : {p : ℕ} {s : Bool} → Reached x p s → p < size x
@@ -55,29 +40,23 @@ module _ (x : Submission) where
 
   module _ (map : List ℕ) where
     -- without those reasons, with no marked parameter and every next pair marked, a pair has no reason
-    quiet-arrival : (q : ℕ) (t : Bool) → Fails (arrivalCases never (size x) q t) → ((q ≡ size x → ⊥) → marked map q t ≡ true) → Fails (arrivalCases (unmarked map) (size x) q t)
+    quiet-arrival : (q : ℕ) (t : Bool) → Arrived (size x) (q in-state t) false → ((q ≡ size x → ⊥) → marked map q t ≡ true) → Arrived (size x) (q in-state t) (unmarked map (q in-state t))
     unfolding unmarked
-    quiet-arrival q t f h = (f .0, (f .1 .0, (go (eqb q (size x)) refl, tt)))
+    quiet-arrival q t f h = record { past = f .past; end-inside = f .end-inside; unmarked = go (eqb q (size x)) refl }
       where
         go : (b : Bool) → eqb q (size x) ≡ b → not b && not (marked map q t) ≡ false
         go true e = refl
         go false e = ap not (h (eqb-false _ _ e))
 
-    quiet :
+    without :
         (p : ℕ) (s : Bool)
         → flawAt x p s ≡ none
-        → among map (p + 1) (parametersOf (commandAt x p) .count) ≡ false
+        → among map (p + 1) (parameterCount (commandAt x p)) ≡ false
         → ((q : ℕ) (t : Bool) → Next (commandAt x p) p s q t → (q ≡ size x → ⊥) → marked map q t ≡ true)
         → reasonAt x map p s ≡ none
-    unfolding firstReason
-    quiet p s e b h =
-        let f = unflawed p s e in
-        let g = f .1 .1 .1 in
-        let arrivals =
-        all-arrivals (unmarked map) (size x) (nexts (commandAt x p) p s)
-        (λ q t n. quiet-arrival q t (each-arrival never (size x) (nexts (commandAt x p) p s) (g .1 .1 .1 .1) q t n) (h q t n)) in
-        fails-none (reasonCases (among map) (unmarked map) x (commandAt x p) p s)
-        (f .0, (f .1 .0, (f .1 .1 .0, (g .0, (g .1 .0, (g .1 .1 .0, (b, arrivals)))))))
+    without p s e b h =
+        let f = quiet noMap x p s .0 e in
+        quiet (byMap map) x p s .1 (record { own = f .own; among = b; arrivals = λ q t n. quiet-arrival q t (f .arrivals q t n) (h q t n) })
 
     module _ (exact : Exact x map) where
       -- the marks are what is reached
@@ -102,16 +81,16 @@ module _ (x : Submission) where
         no-flaw : (p : ℕ) (s : Bool) → Reached x p s → flawAt x p s ≡ none
         no-flaw p s r = settled (flawAt x p s) (λ n. fair p (flawed r n))
 
-        clear : (p : ℕ) (s : Bool) → Reached x p s → among map (p + 1) (parametersOf (commandAt x p) .count) ≡ false
+        clear : (p : ℕ) (s : Bool) → Reached x p s → among map (p + 1) (parameterCount (commandAt x p)) ≡ false
         unfolding among starts
         clear p s r =
-            let l = ltb-false (size x) (p + 1 + parametersOf (commandAt x p) .count) (unflawed p s (no-flaw p s r) .1 .1 .1 .0) in
+            let l = ltb-false (size x) (placeAfter (commandAt x p) p) (quiet noMap x p s .0 (no-flaw p s r) .own .short) in
             none-found _ _ (λ k h. ap not (eq-eqb _ _ (bare (p + 1 + k) (omega arith) (λ t v. fair p (amid r v (omega arith) (omega arith))))))
 
         reached-quiet : (p : ℕ) (s : Bool) → Reached x p s → reasonAt x map p s ≡ none
         reached-quiet p s r =
             let e = no-flaw p s r in
-            quiet p s e (clear p s r) (λ q t n ne. let v = onward r e n ne in exact-marks q t (reached-within v) .1 v)
+            without p s e (clear p s r) (λ q t n ne. let v = onward r e n ne in exact-marks q t (reached-within v) .1 v)
 
         mark-quiet : (p : ℕ) (s : Bool) → p < size x → found? (atMark x map p s) ≡ false
         mark-quiet p s l = mark-none x map p s (λ m. reached-quiet p s (exact-marks p s l .0 m))
@@ -128,7 +107,7 @@ module _ (x : Submission) where
                 rw (exact-marks 0 main l .1 (origin l))
 
         pub complete-verdict : verdictOf x map ≡ Accepted
-        unfolding verdictOf firstOf placeVerdict pairVerdict refusedPair
+        unfolding verdictOf firstOf placeVerdict firstRefused numberedPair pairVerdict refusedPair
         complete-verdict =
             let narrow = none-wide x map .1 (exact .narrow) in
             let pairs : lowest (refusedPair x map) (2 * size x) ≡ none =
@@ -144,17 +123,16 @@ module _ (x : Submission) where
           ⊎-elim (λ g. absurd (ne (g .0))) (λ g. g) (fine x map p s (ok .quiet p s (h .0) (h .1)) .next q t n)
 
       lenient : (p : ℕ) (s : Bool) → reasonAt x map p s ≡ none → flawAt x p s ≡ none
-      unfolding firstReason
       lenient p s e =
-          let f = none-fails (reasonCases (among map) (unmarked map) x (commandAt x p) p s) e in
-          let g = f .1 .1 .1 in
-          let arrivals =
-          all-arrivals never (size x) (nexts (commandAt x p) p s)
-          (λ q t n.
-          let a = each-arrival (unmarked map) (size x) (nexts (commandAt x p) p s) (g .1 .1 .1 .1) q t n in
-          (a .0, (a .1 .0, (and-false (not (eqb q (size x))), tt)))) in
-          fails-none (reasonCases never₂ never x (commandAt x p) p s)
-          (f .0, (f .1 .0, (f .1 .1 .0, (g .0, (g .1 .0, (g .1 .1 .0, (refl, arrivals)))))))
+          let f = quiet (byMap map) x p s .0 e in
+          quiet noMap x p s .1
+          (record {
+            own = f .own;
+            among = refl;
+            arrivals = λ q t n.
+                let a = f .arrivals q t n in
+                record { past = a .past; end-inside = a .end-inside; unmarked = and-false (not (eqb q (size x))) };
+          })
 
       pub reached-none-bad : (p : ℕ) → Bad x p → ⊥
       reached-none-bad p (flawed {s = s} r n) = let h = reached-marked r in n (lenient p s (ok .quiet p s (h .0) (h .1)))

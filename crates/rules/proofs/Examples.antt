@@ -10,16 +10,17 @@ use borrow.Author.Tests.{eqb-true, eq-eqb}
 use Rattle.word.specs.First.{choose, first}
 use Rattle.word.specs.Lowest.{keep, lowest, found?}
 use Rattle.word.specs.Setting.{refusedOr}
-use Rattle.word.specs.Parts.{fits, numbersIn}
-use Rattle.word.specs.Form.{inMode, increasing, nonIncreasing, sliConditional, returning, long, oldJump, jump, call, everythingElse, forms, formIn, usable}
-use Rattle.word.specs.Reading.{commandIn, readingOf, readOf}
+use Rattle.word.specs.Parts.{hasBits, numbersIn}
+use Rattle.word.specs.Form.{inMode, increasing, nonIncreasing, sliConditional, returning, long, oldJump, jump, call, everythingElse, forms, formIn, whyNot, nowhere?, usable}
+use Rattle.word.specs.Reading.{number, parameterCount, commandIn, readingOf, readOf}
 use Rattle.word.specs.Special.{specials, listed, presentOf}
 use Rattle.word.specs.Lent.{wordsOf}
 use Rattle.rules.specs.Permit.{permits}
-use Rattle.rules.specs.Map.{main, inside, marked, unmarked, tooWide, starts, among}
-use Rattle.rules.specs.Parameters.{parametersOf, methodFor, lacking, denied}
-use Rattle.rules.specs.Reason.{reserved?, call?, return?, nexts, Submission, submission, size, firstReason}
-use Rattle.rules.specs.Judging.{firstOf, placeVerdict, startVerdict, atMark, refusedPair, rejected, pairVerdict, verdictOf, settingOf}
+use Rattle.rules.specs.Map.{main, inside, marked, unmarked, overThree, starts, among}
+use Rattle.rules.specs.Parameters.{methodsOf, methodFor, anyFails, lacking, denied}
+use Rattle.rules.specs.Next.{nexts}
+use Rattle.rules.specs.Reason.{reserved?, call?, return?, Submission, submission, size, firstReason}
+use Rattle.rules.specs.Judging.{firstOf, placeVerdict, startVerdict, atMark, refusedPair, refusedAt, numberedPair, firstRefused, pairVerdict, verdictOf, settingOf}
 use Rattle.rules.specs.Path.{Reached, origin, onward}
 use Rattle.rules.specs.Promises.{Sized}
 use Rattle.rules.specs.Examples.{Example, printed, refAlone, subroutine, over, Examples}
@@ -61,7 +62,7 @@ module _ (level : ℕ) (sli : Bool) (bytes map list : List ℕ) where
       }
 
 pub examples : Examples
-unfolding verdictOf firstOf placeVerdict startVerdict atMark refusedPair rejected pairVerdict keep lowest found? choose first refusedOr fits numbersIn inMode increasing nonIncreasing sliConditional returning long oldJump jump call everythingElse forms formIn usable commandIn readingOf readOf specials listed presentOf wordsOf permits marked unmarked tooWide starts among parametersOf methodFor lacking denied reserved? call? return? nexts firstReason
+unfolding verdictOf firstOf placeVerdict startVerdict atMark refusedPair refusedAt numberedPair firstRefused pairVerdict keep lowest found? choose first refusedOr hasBits numbersIn inMode increasing nonIncreasing sliConditional returning long oldJump jump call everythingElse forms formIn whyNot nowhere? usable commandIn readingOf readOf specials listed presentOf wordsOf permits marked unmarked overThree starts among number parameterCount methodsOf methodFor anyFails lacking denied reserved? call? return? nexts firstReason
 examples =
     record {
       printed-case = example 3 false printed (1 ∷ 0 ∷ []) refAlone (sized 3 _ _ (omega arith) (omega arith) refl refl) refl refl one;

@@ -1,20 +1,21 @@
--- What is found at a pair: by two lists of cases, one after the other, and by those of a command. Assumes nothing.
-use Prim.Native.Nat.{ℕ, _+_, _/_, _<_}
+-- What is found at a pair: by lists of cases in turn, by those of its next pairs, and by those of its command. Assumes nothing.
+use Prim.Native.Nat.{ℕ, _≤_}
 use mathlib.Core.Path.{_≡_, refl, sym, _∙_}
-use mathlib.Core.Bool.{Bool, false}
-use mathlib.Core.List.{List, _∷_, _++_}
+use mathlib.Core.Bool.{Bool, true, false}
+use mathlib.Core.List.{List, [], _∷_, _++_}
 use mathlib.Core.Option.{Option, none, some}
 use native.Mathlib.Omega.{arith}
-use borrow.Author.Tests.{le-ltb}
+use lib.Dec.{ltb}
+use borrow.Author.Tests.{eq-eqb, ltb-false}
 use Rattle.word.specs.First.{Case, choose, first, _when_}
-use Rattle.word.specs.Lowest.{lowest, found?}
 use Rattle.word.specs.declared.reading.Reading.{Reading}
-use Rattle.word.specs.declared.reading.Reading.the-variants.{Call}
-use Rattle.word.proofs.First.{orElse, first-append}
-use Rattle.rules.specs.Map.{main, inside, among, unmarked}
-use Rattle.rules.specs.Parameters.{parametersOf, lacking, denied}
-use Rattle.rules.specs.Reason.{CALL_INSIDE, Submission, size, commandAt, reserved?, call?, return?, nexts, formCases, parameterCases, arrivalCases, nextCases, commandCases, firstReason, reasonAt, findingOf}
-use Rattle.rules.specs.declared.parameters.Parameters.{Parameters}
+use Rattle.word.proofs.First.{choose-true, choose-false, orElse, first-append}
+use Rattle.rules.specs.Map.{marked}
+use Rattle.rules.specs.Next.{held}
+use Rattle.rules.specs.Reason.{Submission, commandAt, arrivalCases, nextCases, byMap, commandCases, firstReason, findingOf}
+use Rattle.rules.specs.Judging.{atMark}
+use Rattle.rules.specs.declared.pair.Pair.{Pair}
+use Rattle.rules.specs.declared.pair.Nexts.{Nexts}
 use Rattle.rules.specs.declared.reason.Reason.{Reason}
 use Rattle.rules.specs.declared.reason.Finding.{Finding}
 use Rattle.rules.specs.declared.reason.Finding.the-variants.{Nothing, Against}
@@ -46,44 +47,81 @@ module _ (cs ds : List Case) {f : Finding} (found : f ≡ findingOf (first cs)) 
   unfolding either
   found-later e h = h ∙ sym (in-turn ∙ rw e)
 
--- past a case that fails, what is found is found by the rest
-pub found-past : (n : ℕ) (cs : List Case) {b : Bool} → b ≡ false → {f : Finding} → f ≡ findingOf (first cs) → f ≡ findingOf (first (n when b ∷ cs))
+-- a case that holds is what is found, and past one that does not it is found by the rest
+module _ (n : ℕ) (cs : List Case) {b : Bool} where
+  pub found-here : b ≡ true → Against (record { number = n }) ≡ findingOf (first (n when b ∷ cs))
+  unfolding first choose findingOf
+  found-here e = rw e
+
+  pub found-past : b ≡ false → {f : Finding} → f ≡ findingOf (first cs) → f ≡ findingOf (first (n when b ∷ cs))
+  unfolding first choose
+  found-past e h = rw e h
+
+-- What is found by the next pairs, as they are handed over: nothing where there is none, what is found by one where there is one,
+-- else by the first, and then by the second.
+module _ (lacks : Pair → Bool) (n : ℕ) where
+  -- what is found by one of them
+  abbrev at : Pair → Finding
+  at q = findingOf (first (arrivalCases n q (lacks q)))
+
+  abbrev by : List Pair → Finding
+  by qs = findingOf (first (nextCases lacks n qs))
+
+  pub no-next : (qs : List Pair) {ns : Nexts} → ns ≡ held qs → ns .count ≡ 0 → Nothing ≡ by qs
+  unfolding held first findingOf
+  no-next [] is e = refl
+  no-next (q ∷ qs) is e = absurd (let z = rw is at e in omega arith)
+
+  module _ {f : Finding} where
+    pub one-next : (qs : List Pair) {ns : Nexts} → ns ≡ held qs → ns .count ≡ 1 → f ≡ at (ns .first) → f ≡ by qs
+    unfolding held
+    one-next [] is c h = absurd (let z = rw is at c in omega arith)
+    one-next (q ∷ []) is c h = rw is at h
+    one-next (q ∷ s ∷ qs) is c h = absurd (let z = rw is at c in omega arith)
+
+    pub against-first : (qs : List Pair) {ns : Nexts} → ns ≡ held qs → (ns .count ≡ 0 → ⊥) → f ≡ at (ns .first) → {r : Reason} → f ≡ Against r → f ≡ by qs
+    unfolding held
+    against-first [] is c h e = absurd (c (rw is))
+    against-first (q ∷ qs) is c h e = found-first (arrivalCases n q (lacks q)) (nextCases lacks n qs) (rw is at h) e
+
+    pub then-second :
+        (qs : List Pair) {ns : Nexts}
+        → ns ≡ held qs
+        → ns .count ≤ 2
+        → (ns .count ≡ 1 → ⊥)
+        → (ns .count ≡ 0 → ⊥)
+        → f ≡ at (ns .first)
+        → f ≡ Nothing
+        → {g : Finding}
+        → g ≡ at (ns .second)
+        → g ≡ by qs
+    unfolding held
+    then-second [] is l a b h e k = absurd (b (rw is))
+    then-second (q ∷ []) is l a b h e k = absurd (a (rw is))
+    then-second (q ∷ s ∷ []) is l a b h e k = found-later (arrivalCases n q (lacks q)) (arrivalCases n s (lacks s)) (rw is at h) e (rw is at k)
+    then-second (q ∷ s ∷ t ∷ qs) is l a b h e k = absurd (let z = rw is at l in omega arith)
+
+-- at the end and past it no mark is asked
+pub unasked : (n : ℕ) (q : Pair) (a b : Bool) → n ≤ q .place → first (arrivalCases n q a) ≡ first (arrivalCases n q b)
 unfolding first choose
-found-past n cs e h = rw e h
+unasked n q a b l = go (ltb n (q .place)) refl
+  where
+    go : (t : Bool) → ltb n (q .place) ≡ t → first (arrivalCases n q a) ≡ first (arrivalCases n q b)
+    go true e = rw e
+    go false e = let h = ltb-false n (q .place) e in let end : q .place ≡ n = omega arith in rw (eq-eqb (q .place) n end)
 
--- Where no parameters follow a command, at a place p of n words,
-module _ (map list : List ℕ) (level : ℕ) {n p : ℕ} (l : p < n) where
-  -- nothing is found by them,
-  pub none-follow : (ps : Parameters) (ds : List Case) → ps .count ≡ 0 → first (parameterCases (among map) level list n ps p ++ ds) ≡ first ds
-  unfolding first choose lacking denied among lowest found?
-  none-follow ps ds e = rw (e, le-ltb n (p + 1 + 0) (omega arith))
+-- At a pair that the map does not mark nothing is found; at one that it marks, what is found by the cases of its command.
+module _ (x : Submission) (map : List ℕ) (p : ℕ) (s : Bool) where
+  pub unmarked-none : marked map p s ≡ false → Nothing ≡ findingOf (atMark x map p s)
+  unfolding atMark findingOf
+  unmarked-none e = rw (choose-false e)
 
-  -- and what speaks against the command c, which is d, is found by its form or its next pairs
-  pub by-nexts :
-      (s : Bool) {c d : Reading} {f : Finding}
-      → c ≡ d
-      → parametersOf d .count ≡ 0
-      → f ≡ findingOf (first (formCases d s ++ nextCases (unmarked map) n (nexts d p s)))
-      → f ≡ findingOf (first (commandCases (among map) (unmarked map) level list n c p s))
-  by-nexts s {d = d} is e h =
-      rw (is, first-append (formCases d s), none-follow (parametersOf d) (nextCases (unmarked map) n (nexts d p s)) e, ← first-append (formCases d s)) h
-
--- a call's form speaks against it only inside a subroutine; its next pairs are its target, inside one, and the word after it, in main
-pub call-first :
-    (map : List ℕ) (n t p : ℕ) (s : Bool)
-    → first (CALL_INSIDE when s ∷ (arrivalCases (unmarked map) n (t / 4) inside ++ arrivalCases (unmarked map) n (p + 1) main))
-    ≡ first (formCases (Call t) s ++ nextCases (unmarked map) n (nexts (Call t) p s))
-unfolding reserved? call? return? nexts first choose
-call-first map n t p s = refl
-
--- what is found by the cases of the command at a pair is found there
-pub at-command :
-    (x : Submission) (map : List ℕ) (p : ℕ) (s : Bool) {d : Reading}
-    → d ≡ commandAt x p
-    → {n : ℕ}
-    → size x ≡ n
-    → {f : Finding}
-    → f ≡ findingOf (first (commandCases (among map) (unmarked map) (x .setting .level .number) (x .permit) n d p s))
-    → f ≡ findingOf (reasonAt x map p s)
-unfolding firstReason
-at-command x map p s read whole h = rw (← read, whole) h
+  pub at-command :
+      marked map p s ≡ true
+      → {d : Reading}
+      → d ≡ commandAt x p
+      → {f : Finding}
+      → f ≡ findingOf (first (commandCases (byMap map) x d p s))
+      → f ≡ findingOf (atMark x map p s)
+  unfolding atMark firstReason
+  at-command e read h = rw (choose-true e, ← read) h

@@ -1,8 +1,8 @@
-pub mod Bits
 pub mod Scans
 pub mod Parts
 pub mod Cases
-pub mod Together
+pub mod Nexts
+pub mod AllBits
 pub mod Methods
 pub mod Readings
 pub mod Findings
@@ -12,11 +12,11 @@ pub mod Table
 pub mod Clean
 pub mod Complete
 pub mod Counted
-pub mod Packs
+pub mod Small
 pub mod Promises
 pub mod Reasons
 pub mod Moving
 pub mod SoundMoves
-pub mod Carried
+pub mod StepsAreMoves
 pub mod Sound
 pub mod Examples

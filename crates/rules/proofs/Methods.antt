@@ -1,76 +1,59 @@
--- The parameters of a command, and the methods that they go to. Assumes nothing.
+-- The methods that a command's parameters go to. Assumes nothing.
 use Prim.Native.Nat.{ℕ, _+_, _*_, _%_, _≤_, _<_}
-use mathlib.Core.Path.{_≡_}
+use mathlib.Core.Path.{_≡_, refl}
 use mathlib.Core.Bool.{Bool, true, false, not}
+use mathlib.Core.List.{List}
 use native.Mathlib.Omega.{arith}
 use borrow.Author.Tests.{le-leb}
 use Rattle.word.specs.First.{choose}
 use Rattle.word.specs.Lowest.{lowest, found?}
+use Rattle.word.specs.Reading.{parameterCount}
 use Rattle.word.specs.Special.{presentOf}
-use Rattle.word.specs.Promises.{Within}
+use Rattle.word.specs.declared.setting.Setting.{Setting}
 use Rattle.word.specs.declared.reading.Reading.{Reading}
-use Rattle.word.specs.declared.reading.Reading.the-variants.{Increasing, NonIncreasing, Sli, Return, Long, OldJump, Jump, Call, Reserved, Refused}
 use Rattle.word.proofs.First.{by-test}
 use Rattle.word.proofs.Lowest.{none-found}
-use Rattle.rules.specs.Parameters.{parametersOf, methodFor, lacking, Fit}
-use Rattle.rules.specs.declared.parameters.Parameters.{Parameters}
-use Rattle.rules.proofs.Scans.{Passed, onward, passes}
+use Rattle.rules.specs.Parameters.{methodFor, anyFails, lacking, denied}
+use Rattle.rules.specs.declared.parameters.Methods.{Methods}
+use Rattle.rules.proofs.Scans.{Passed, onward, passes, none-passes}
 
--- each method is one of 2,048, as the first is
-pub method-below : (ps : Parameters) (k : ℕ) → ps .method < 2048 → methodFor ps k < 2048
-unfolding methodFor
-method-below ps k h = by-test (λ (m : ℕ). m < 2048) (λ e. omega arith) (λ e. h)
-
--- no level lacks a method from 0x100 up, where none of a run is below
-pub above-special : (ps : Parameters) → 0x40 ≤ ps .method → ps .method + ps .count ≤ 2048 → (level : ℕ) → lacking level ps ≡ false
-unfolding lacking methodFor presentOf
-above-special ps low high level =
+-- no level lacks a method from 0x100 up, where none of n is below
+pub above-special : (ms : Methods) (n : ℕ) → 0x40 ≤ ms .method → ms .method + n ≤ 2048 → (level : ℕ) → anyFails (presentOf level) ms n ≡ false
+unfolding anyFails methodFor presentOf
+above-special ms n low high level =
     none-found _ _
     (λ k l.
-    let high-enough : 0x100 ≤ 4 * choose (ps .increasing) ((ps .method + k) % 2048) (ps .method) = by-test (λ (m : ℕ). 0x100 ≤ 4 * m) (λ e. omega arith) (λ e. omega arith) in
-    rw (le-leb 0x100 (4 * choose (ps .increasing) ((ps .method + k) % 2048) (ps .method)) high-enough))
+    let high-enough : 0x100 ≤ 4 * choose (ms .increasing) ((ms .method + k) % 2048) (ms .method) = by-test (λ (m : ℕ). 0x100 ≤ 4 * m) (λ e. omega arith) (λ e. omega arith) in
+    rw (le-leb 0x100 (4 * choose (ms .increasing) ((ms .method + k) % 2048) (ms .method)) high-enough))
+
+-- where no parameters follow, no test fails
+pub none-fails : (setting : Setting) (list : List ℕ) (d : Reading) → parameterCount d ≡ 0 → (lacking setting d ≡ false) × (denied list d ≡ false)
+unfolding lacking denied anyFails lowest found?
+none-fails setting list d e = rw e (refl, refl)
 
 -- whether a test of methods fails at the method of parameter k
-unfoldable pub fails : (ℕ → Bool) → Parameters → ℕ → Bool
-fails t ps k = not (t (methodFor ps k))
+unfoldable pub fails : (ℕ → Bool) → Methods → ℕ → Bool
+fails t ms k = not (t (methodFor ms k))
 
--- A loop that makes the test of each: m is the method of parameter k, and r what the test says of it.
-module _
-    (t : ℕ → Bool) (ps : Parameters) (k : ℕ)
-    (passed : Passed (fails t ps) (ps .count) k)
-    (l : k < ps .count)
-    {m : ℕ}
-    (goes : m ≡ methodFor ps k)
-    {r : Bool}
-    (says : r ≡ t m)
-  where
-    -- so the test says it of parameter k:
-    tested : {b : Bool} → not r ≡ b → fails t ps k ≡ b
+-- A loop that makes the test of each of n:
+module _ (t : ℕ → Bool) (ms : Methods) (n k : ℕ) (passed : Passed (fails t ms) n k) where
+  -- m is the method of parameter k, and r what the test says of it,
+  module _ (l : k < n) {m : ℕ} (goes : m ≡ methodFor ms k) {r : Bool} (says : r ≡ t m) where
+    -- so the test says it of parameter k;
+    tested : {b : Bool} → not r ≡ b → fails t ms k ≡ b
     unfolding fails
     tested h = rw (← goes, ← says) h
 
     -- the loop goes on where the test holds,
-    pub method-onward : not r ≡ false → Passed (fails t ps) (ps .count) (k + 1)
-    method-onward h = onward (fails t ps) (ps .count) k passed l (tested h)
+    pub method-onward : not r ≡ false → Passed (fails t ms) n (k + 1)
+    method-onward h = onward (fails t ms) n k passed l (tested h)
 
-    -- and ends where it fails
-    pub method-met : not r ≡ true → true ≡ found? (lowest (fails t ps) (ps .count))
-    method-met h = passes (fails t ps) (ps .count) k passed l (tested h)
+    -- ends where it fails,
+    pub method-met : not r ≡ true → true ≡ anyFails t ms n
+    unfolding anyFails fails
+    method-met h = passes (fails t ms) n k passed l (tested h)
 
--- no parameters at all fit
-nothing : Fit (record { count = 0; subchannel = 0; method = 0; increasing = false })
-nothing = record { count = omega arith; subchannel = omega arith; method = omega arith }
-
--- and those of a reading do, its numbers within their widths
-pub parameters-fit : (r : Reading) → Within r → Fit (parametersOf r)
-unfolding parametersOf
-parameters-fit (Increasing c s m) h = record { count = h .0; subchannel = h .1; method = omega arith }
-parameters-fit (NonIncreasing c s m) h = record { count = h .0; subchannel = h .1; method = omega arith }
-parameters-fit (Sli k) h = nothing
-parameters-fit Return h = nothing
-parameters-fit (Long s m c) h = nothing
-parameters-fit (OldJump t) h = nothing
-parameters-fit (Jump t) h = nothing
-parameters-fit (Call t) h = nothing
-parameters-fit Reserved h = nothing
-parameters-fit (Refused r) h = nothing
+  -- or comes to the last
+  pub methods-fine : n ≤ k → false ≡ anyFails t ms n
+  unfolding anyFails fails
+  methods-fine l = none-passes (fails t ms) n k passed l

@@ -9,7 +9,7 @@ use native.Mathlib.Omega.{arith}
 use lib.ListN.{getD}
 use borrow.Author.Tests.{eqb-true, ne-eqb, not-false}
 use Rattle.word.specs.First.{choose}
-use Rattle.word.specs.Reading.{readOf}
+use Rattle.word.specs.Reading.{number, parameterCount, readOf}
 use Rattle.word.specs.Special.{presentOf}
 use Rattle.word.specs.Promises.{Within}
 use Rattle.word.specs.declared.reading.Reading.{Reading}
@@ -19,7 +19,9 @@ use Rattle.word.proofs.Promises.{widths}
 use Rattle.event.specs.declared.Kind.{Kind}
 use Rattle.event.specs.declared.Kind.the-variants as kind
 use Rattle.event.specs.declared.Method.{Method}
-use Rattle.pusher.specs.Record.{number, halts, withGet}
+use Rattle.pusher.specs.Record.{halts, withGet}
+use Rattle.pusher.specs.Loan.{PusherLoan, withWords}
+use Rattle.pusher.specs.Many.{Submits}
 use Rattle.pusher.specs.Moving.{Role, halted, faults, counts, submits, commands, enters, idles, role, quietly, advanced, wordAt, methodOf, usedUp, parameterOf, begun, conditional, jumped, called, returned, commanded, act, pushOf}
 use Rattle.pusher.specs.declared.record.Setup.{Setup}
 use Rattle.pusher.specs.declared.record.Run.{Run}
@@ -30,18 +32,18 @@ use Rattle.pusher.specs.declared.moving.Pushed.{Pushed}
 use Rattle.pusher.proofs.Roles.{Facts, facts}
 use Rattle.rules.specs.Permit.{permits}
 use Rattle.rules.specs.Map.{main, inside, marked}
-use Rattle.rules.specs.Parameters.{parametersOf, methodFor}
-use Rattle.rules.specs.Reason.{reserved?, call?, return?, nexts, Submission, size, commandAt}
-use Rattle.rules.specs.Promises.{Submits}
-use Rattle.rules.specs.declared.parameters.Parameters.{Parameters}
+use Rattle.rules.specs.Parameters.{methodsOf, methodFor}
+use Rattle.rules.specs.Next.{nexts}
+use Rattle.rules.specs.Reason.{reserved?, call?, return?, Submission, size, commandAt}
+use Rattle.rules.specs.declared.parameters.Methods.{Methods}
 use Rattle.rules.proofs.Clean.{Good, Fine, fine, Clean}
 
--- the parameters that are left of a run
-abbrev left : Run → Parameters
-left r = record { count = r .count; subchannel = r .subchannel; method = r .method; increasing = r .increasing }
+-- the methods that are left of a run
+abbrev left : Run → Methods
+left r = record { subchannel = r .subchannel; method = r .method; increasing = r .increasing }
 
 -- the run of a parameter less: its method k is the one after
-rest-method : (r : Run) (k : ℕ) → methodFor (record { count = r .count - 1; subchannel = r .subchannel; method = choose (r .increasing) ((r .method + 1) % 2048) (r .method); increasing = r .increasing }) k ≡ methodFor (left r) (k + 1)
+rest-method : (r : Run) (k : ℕ) → methodFor (record { subchannel = r .subchannel; method = choose (r .increasing) ((r .method + 1) % 2048) (r .method); increasing = r .increasing }) k ≡ methodFor (left r) (k + 1)
 unfolding methodFor choose
 rest-method r k = go (r .increasing)
   where
@@ -71,7 +73,7 @@ module _ (x : Submission) (map : List ℕ) where
     pub next : Good x map (place + run .count) (sub .active)
     pub home : sub .active ≡ true → (b : ℕ) × (sub .back ≡ 4 * b) × Good x map b main
     pub narrow : (run .count ≡ 0 → ⊥) → run .method < 2048
-    pub present : (k : ℕ) → k < run .count → presentOf (x .setting .level .number) (4 * methodFor (left run) k) ≡ true
+    pub present : (k : ℕ) → k < run .count → presentOf (x .setting .level .number) (methodFor (left run) k) ≡ true
     pub allowed : (k : ℕ) → k < run .count → permits (x .permit) (run .subchannel) (methodFor (left run) k) ≡ true
     pub bare : (k : ℕ) → k < run .count → getD map (place + k) 0 ≡ 0
 
@@ -123,8 +125,8 @@ module _ (x : Submission) (map : List ℕ) where
           (c b m : ℕ) (up : Bool)
           → m < 0x2000
           → Good x map (i .place + 1 + c) (p .subroutine .active)
-          → ((k : ℕ) → k < c → presentOf (x .setting .level .number) (4 * methodFor (record { count = c; subchannel = b; method = m / 4; increasing = up }) k) ≡ true)
-          → ((k : ℕ) → k < c → permits (x .permit) b (methodFor (record { count = c; subchannel = b; method = m / 4; increasing = up }) k) ≡ true)
+          → ((k : ℕ) → k < c → presentOf (x .setting .level .number) (methodFor (record { subchannel = b; method = m / 4; increasing = up }) k) ≡ true)
+          → ((k : ℕ) → k < c → permits (x .permit) b (methodFor (record { subchannel = b; method = m / 4; increasing = up }) k) ≡ true)
           → ((k : ℕ) → k < c → getD map (i .place + 1 + k) 0 ≡ 0)
           → After (begun past c b m up)
       unfolding begun
@@ -153,14 +155,14 @@ module _ (x : Submission) (map : List ℕ) where
       jumped-after t e g = quiet-after _ kind.Command (between p t (t / 4) (p .subroutine .active) (p .subroutine .back) i z (omega arith) g (i .home))
 
       command-after : (d : Reading) → d ≡ commandAt x (i .place) → Within d → After (commanded past d)
-      unfolding commanded parametersOf nexts reserved? call? return? conditional called returned
+      unfolding commanded number parameterCount methodsOf nexts reserved? call? return? conditional called returned
       command-after (Increasing c b m) e w =
           begun-after c b m true (w .2) (f .next _ _ (rw (← e) (inl (refl, refl)))) (rw (← e) at (f .present)) (rw (← e) at (f .allowed)) (rw (← e) at (f .bare))
       command-after (NonIncreasing c b m) e w =
           begun-after c b m false (w .2) (f .next _ _ (rw (← e) (inl (refl, refl)))) (rw (← e) at (f .present)) (rw (← e) at (f .allowed)) (rw (← e) at (f .bare))
       command-after (Sli k) e w =
           quiet-after _ kind.Command
-          (between p (p .get + 4) (i .place + 1) (p .subroutine .active) (p .subroutine .back) i z (omega (arith, i .address)) (f .next _ _ (rw (← e) (inl (refl, refl)))) (i .home))
+          (between p (p .get + 4) (i .place + 1) (p .subroutine .active) (p .subroutine .back) i z (omega (arith, i .address)) (f .next _ _ (rw (← e) (inl (omega arith, refl)))) (i .home))
       command-after Return e w =
           let out : not (p .subroutine .active) ≡ false = rw (← e) at (f .no-return) in
           let h = i .home (not-false _ out) in
@@ -212,7 +214,7 @@ module _ (x : Submission) (map : List ℕ) where
       parameter-after : (p : Pusher) (i : Inv p) → (p .run .count ≡ 0 → ⊥) → (w : ℕ) → After (parameterOf s (withGet p (p .get + 4)) w)
       unfolding parameterOf
       parameter-after p i n w =
-          let there : presentOf (s .setting .level .number) (4 * p .run .method) ≡ true =
+          let there : presentOf (s .setting .level .number) (p .run .method) ≡ true =
           rw setting (rw (first-method (p .run) (i .narrow n)) at (i .present 0 (omega arith))) in
           by-test After (λ t. absurd (false≢true (sym (ap not there) ∙ t)))
           (λ t.
@@ -230,36 +232,40 @@ module _ (x : Submission) (map : List ℕ) where
                 ⊎-elim (λ e. let q : methodOf p w ≡ m = cc in own-permitted p i n w m q) (λ e. let z : _≡_ {A = ℕ} 0 1 = cc in absurd (omega arith)) h;
           }))
 
-      -- a place at which a command starts
-      pub starts-at : (p : Pusher) (i : Inv p) → (es : List ℕ) → Facts s p (x .words) es commands → (i .place < size x) × (marked map (i .place) (p .subroutine .active) ≡ true)
-      starts-at p i es f = ⊎-elim (λ g. let h = f .1 .lent in absurd (omega (arith, i .address))) (λ g. let e : i .place + p .run .count ≡ i .place = omega arith in (omega arith, rw e at (g .1))) (i .next)
+      -- a loan of these words, whatever else is in it
+      abbrev pub on : PusherLoan → PusherLoan
+      on l = withWords l (x .words)
 
-      act-after : (p : Pusher) (i : Inv p) (es : List ℕ) (r : Role) → Facts s p (x .words) es r → After (act s p (x .words) es r)
+      -- a place at which a command starts
+      pub starts-at : (p : Pusher) (i : Inv p) → (l : PusherLoan) → Facts s p (on l) commands → (i .place < size x) × (marked map (i .place) (p .subroutine .active) ≡ true)
+      starts-at p i l f = ⊎-elim (λ g. let h = f .1 .lent in absurd (omega (arith, i .address))) (λ g. let e : i .place + p .run .count ≡ i .place = omega arith in (omega arith, rw e at (g .1))) (i .next)
+
+      act-after : (p : Pusher) (i : Inv p) (l : PusherLoan) (r : Role) → Facts s p (on l) r → After (act s p (on l) r)
       unfolding act
-      act-after p i es halted f = absurd (false≢true (sym (i .running) ∙ f))
-      act-after p i es faults f =
-          let l : i .place ≤ size x = ⊎-elim (λ g. omega arith) (λ g. omega arith) (i .next) in
+      act-after p i l halted f = absurd (false≢true (sym (i .running) ∙ f))
+      act-after p i l faults f =
+          let most : i .place ≤ size x = ⊎-elim (λ g. omega arith) (λ g. omega arith) (i .next) in
           ⊎-elim
           (λ g.
           let a = i .address in
           let e = i .end in
           let n = g .0 in
-          let m : i .place < size x = ⊎-elim (λ q. absurd (n (omega arith))) (λ m. m) (eq-or-lt-of-le l) in
+          let m : i .place < size x = ⊎-elim (λ q. absurd (n (omega arith))) (λ m. m) (eq-or-lt-of-le most) in
           let b = limit (i .place) m in
           ⊎-elim (λ h. absurd (omega arith)) (λ h. absurd (omega arith)) (g .1))
           (λ g. absurd (nv04-style (g .0 .ib)))
           (f .1)
-      act-after p i es counts f = absurd (false≢true (sym (i .unawaited) ∙ f .2))
-      act-after p i es submits f = rw (advances p) (parameter-after p i (f .3) (wordAt p (x .words)))
-      act-after p i es commands f =
-          let at = starts-at p i es f in
+      act-after p i l counts f = absurd (false≢true (sym (i .unawaited) ∙ f .2))
+      act-after p i l submits f = rw (advances p) (parameter-after p i (f .3) (wordAt p (x .words)))
+      act-after p i l commands f =
+          let at = starts-at p i l f in
           let here : p .get / 4 ≡ i .place = omega (arith, i .address) in
           let d = readOf (s .setting) (wordAt p (x .words)) 0 in
           rw (advances p)
           (command-after p i (f .3) (fine x map (i .place) (p .subroutine .active) (ok .quiet _ _ (at .0) (at .1))) (at .0) d (rw (setting, here)) (widths (s .setting) (wordAt p (x .words)) 0 d refl))
-      act-after p i es enters f = absurd (nv04-style (f .1 .ib))
-      act-after p i es idles f = quiet-after p kind.Idle i
+      act-after p i l enters f = absurd (nv04-style (f .1 .ib))
+      act-after p i l idles f = quiet-after p kind.Idle i
 
-      pub after : (p : Pusher) → Inv p → (es : List ℕ) → After (pushOf s p (x .words) es)
+      pub after : (p : Pusher) → Inv p → (l : PusherLoan) → After (pushOf s p (on l))
       unfolding pushOf
-      after p i es = act-after p i es (role s p (x .words) es) (facts s p (x .words) es)
+      after p i l = act-after p i l (role s p (on l)) (facts s p (on l))

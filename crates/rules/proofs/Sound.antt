@@ -1,6 +1,6 @@
 -- `Sound`: an accepted map keeps the channel safe. Assumes nothing.
 use Prim.Native.Nat.{ℕ, _*_, _/_}
-use mathlib.Core.Path.{_≡_, refl, ap}
+use mathlib.Core.Path.{_≡_, refl, ap, _∙_}
 use mathlib.Core.Bool.{Bool}
 use mathlib.Core.List.{List}
 use mathlib.Core.Logic.{_⊎_, ⊎-elim}
@@ -16,6 +16,8 @@ use Rattle.pusher.specs.Record.{withPut}
 use Rattle.pusher.specs.Promises.{ReadsParameter}
 use Rattle.pusher.specs.declared.record.Run as pusher-run
 use Rattle.pusher.specs.declared.record.Subroutine.{Subroutine}
+use Rattle.channel.specs.Loan.{Loan}
+use Rattle.channel.specs.Record.{withPusher}
 use Rattle.channel.specs.Answers.{openingRefusal, stepRefusal}
 use Rattle.channel.specs.Contracts.{StepsTo}
 use Rattle.channel.specs.Promises as channel
@@ -23,21 +25,22 @@ use Rattle.channel.specs.declared.record.Channel.{Channel}
 use Rattle.channel.specs.declared.putting.Put.{Put}
 use Rattle.channel.specs.declared.stepping.Answer.the-variants as answer
 use Rattle.channel.specs.declared.stepping.Stepped.{Stepped}
+use Rattle.channel.proofs.ByRole.{none-refused}
 use Rattle.channel.proofs.Promises as proved
 use Rattle.channel.proofs.ReadAs.{read-as}
 use Rattle.word.specs.Lent.{wordsOf}
 use Rattle.rules.specs.Judging.{settingOf}
-use Rattle.rules.specs.Promises.{Bytes, FreshPusher, Started, Lent, Later, now, step, Run, Sound}
+use Rattle.rules.specs.Promises.{Bytes, FreshPusher, Started, Lendable, AfterSteps, now, step, StaysSafe, Sound}
 use Rattle.word.proofs.Bytes.{words-narrow}
 use Rattle.rules.proofs.Table.{Fits, none-told, passed}
 use Rattle.rules.proofs.SoundMoves.{sound-moves}
-use Rattle.rules.proofs.Carried.{later-moved}
+use Rattle.rules.proofs.StepsAreMoves.{steps-moved}
 
 -- a setting is told by its numbers
 setting-is : (s : Setting) (level : ℕ) (sli : Bool) → s .level .number ≡ level → s .mode .number ≡ 0 → s .sli ≡ sli → s ≡ settingOf level sli
 setting-is s level sli a b c = rw (← a, ← b, ← c)
 
-module _ (level : ℕ) (sli : Bool) (bytes map list : List ℕ) (words : Bytes bytes) (h : Fits level sli bytes map list) (s : Started level sli (wordsOf bytes)) where
+module _ (level : ℕ) (sli : Bool) (bytes map list : List ℕ) (words : Bytes bytes) (h : Fits 1048576 level sli bytes map list) (s : Started level sli (wordsOf bytes)) where
   abbrev ws : List ℕ
   ws = wordsOf bytes
 
@@ -70,7 +73,7 @@ module _ (level : ℕ) (sli : Bool) (bytes map list : List ℕ) (words : Bytes b
       )
 
   abbrev first : Channel
-  first = record { setup = s .opened .channel .setup; pusher = withPut (s .opened .channel .pusher) (4 * length ws); puller = s .opened .channel .puller }
+  first = withPusher (s .opened .channel) (withPut (s .opened .channel .pusher) (4 * length ws))
 
   put-is : s .put .channel ≡ first
   put-is = ap (λ (r : Put). r .channel) (proved.accepted .put (s .opened .channel) (4 * length ws) (s .put) (s .puts) put-none (fresh .mode-is))
@@ -93,61 +96,62 @@ module _ (level : ℕ) (sli : Bool) (bytes map list : List ℕ) (words : Bytes b
       })
 
   -- every channel that steps come to is well-formed
-  steps-later : (c : Channel) → Later ws (s .put .channel) c → channel.Later (s .opened .channel) c
+  steps-later : (c : Channel) → AfterSteps ws (s .put .channel) c → channel.Later (s .opened .channel) c
   steps-later c now = channel.put (4 * length ws) (s .put) channel.same (omega (arith, h .words)) (s .puts) refl
-  steps-later c (step {d = b} es t sems exit r l lent m e) = channel.step ws es t sems exit r (steps-later b l) (words-narrow bytes words) (lent .words) m e
+  steps-later c (step {d = b} l exit r a lent m e) = channel.step l exit r (steps-later b a) (record { words = rw (lent .words) (words-narrow bytes words); table = lent .table-words }) m e
 
-  formed : (c : Channel) → Later ws (s .put .channel) c → channel.WellFormed c
+  formed : (c : Channel) → AfterSteps ws (s .put .channel) c → channel.WellFormed c
   formed c l = proved.kept .later (s .opened .channel) c opened-formed (steps-later c l)
 
-  step-none : (c : Channel) → Later ws (s .put .channel) c → (es t sems exit : List ℕ) (r : Stepped) → Lent t sems → StepsTo c ws es t sems r exit → stepRefusal (r .answer) ≡ none
-  step-none c l es t sems exit r lent m =
-      none-told _ (channel.stepPlain c ws t sems) (proved.refused .step c ws es t sems exit r m) (
-        λ n. n (formed c l),
-        (λ o. ⊎-elim (λ k. omega (arith, h .words)) (λ k. omega (arith, lent .semaphores)) o, (lent .table, tt)),
-      )
+  -- a step is not refused
+  can : (c : Channel) → AfterSteps ws (s .put .channel) c → (l : Loan) → Lendable ws l → channel.Takable c l
+  can c a l lent = record { well-formed = formed c a; sizes = record { words = rw (lent .words) (h .words); semaphores = lent .semaphores; table = lent .table } }
+
+  step-none : (c : Channel) → AfterSteps ws (s .put .channel) c → (l : Loan) (exit : List ℕ) (r : Stepped) → Lendable ws l → StepsTo c l r exit → stepRefusal (r .answer) ≡ none
+  step-none c a l exit r lent m =
+      ap (λ (y : Stepped). stepRefusal (y .answer)) (m .answer) ∙ none-refused c l (can c a l lent)
 
   -- a method that a step tells is that of the parameter that it reads
   told-method :
       (c : Channel)
-      → Later ws (s .put .channel) c
-      → (es t sems exit : List ℕ) (k : Kind) (m : Method) (r : Stepped)
-      → Lent t sems
-      → StepsTo c ws es t sems r exit
+      → AfterSteps ws (s .put .channel) c
+      → (l : Loan) (exit : List ℕ) (k : Kind) (m : Method) (r : Stepped)
+      → Lendable ws l
+      → StepsTo c l r exit
       → r .answer ≡ answer.Event (Of k m)
-      → ReadsParameter (c .setup) (c .pusher) ws es × (m .subchannel ≡ c .pusher .run .subchannel) × (m .method ≡ 4 * c .pusher .run .method)
-  told-method c l es t sems exit k m r lent v a =
-      let can : channel.Takable c ws t sems = record { well-formed = formed c l; words = h .words; semaphores = lent .semaphores; table = lent .table } in
-      let reads = read-as .tells-method c ws es t sems exit k m r v can a in
+      → ReadsParameter (c .setup) (c .pusher) (l .pusher) × (m .subchannel ≡ c .pusher .run .subchannel) × (m .method ≡ 4 * c .pusher .run .method)
+  told-method c a l exit k m r lent v says =
+      let taken = can c a l lent in
+      let reads = read-as .tells-method c l exit k m r v taken says in
       ⊎-elim (λ e. let z : _≡_ {A = ℕ} 0 1 = cc in absurd (omega arith))
       (λ e.
       let q = e .2 in
       let same : m ≡ record { subchannel = c .pusher .run .subchannel; method = 4 * c .pusher .run .method; parameter = e .1 } = cc in
       (reads .1, ap (λ (y : Method). y .subchannel) same, ap (λ (y : Method). y .method) same))
-      (read-as .parameter c ws es t sems exit r v can (reads .0) (reads .1) .1)
+      (read-as .parameter c l exit r v taken (reads .0) (reads .1) .1)
 
 pub sound : Sound
 sound level sli bytes map list r words j a s =
-    let h = passed level sli bytes map list r j a .0 in
+    let h = passed _ level sli bytes map list r j a .0 in
     let all = sound-moves level sli bytes map list r j a (s .put .channel .setup) (s .put .channel .pusher) (first-pusher level sli bytes map list words h s) in
     record {
       opens = opened-none level sli bytes map list words h s;
       puts = put-none level sli bytes map list words h s;
-      safe = λ c l.
-          let moved = later-moved (wordsOf bytes) (s .put .channel) c l in
+      safe = λ c a.
+          let moved = steps-moved (wordsOf bytes) (s .put .channel) c a in
           let safe = all .0 (c .pusher) (moved .1) in
           record {
             no-pusher-error = safe .no-error;
-            taken = step-none level sli bytes map list words h s c l;
-            permitted = λ es x m g v k. safe .permitted es x m (rw (moved .0) at v) k;
-            told = λ es t sems exit k m r lent v a.
-                let at = told-method level sli bytes map list words h s c l es t sems exit k m r lent v a in
+            taken = step-none level sli bytes map list words h s c a;
+            permitted = λ l x m w g v k. safe .permitted l x m w (rw (moved .0) at v) k;
+            told = λ l exit k m r lent v e.
+                let at = told-method level sli bytes map list words h s c a l exit k m r lent v e in
                 let same : 4 * c .pusher .run .method / 4 ≡ c .pusher .run .method = omega arith in
-                rw (at .1, at .2, same) (safe .parameter es (rw (moved .0) at (at .0)));
+                rw (at .1, at .2, same) (safe .parameter (l .pusher) (lent .words) (rw (moved .0) at (at .0)));
             closed = safe .closed;
           };
-      apart = λ c d es fs l m g k v w e.
-          let a = later-moved (wordsOf bytes) (s .put .channel) c l in
-          let b = later-moved (wordsOf bytes) (s .put .channel) d m in
-          all .1 (c .pusher) (d .pusher) es fs (a .1) (b .1) (rw (a .0) at v) (rw (b .0) at w) e;
+      apart = λ c d k l u v m n f g y z e.
+          let a = steps-moved (wordsOf bytes) (s .put .channel) c m in
+          let b = steps-moved (wordsOf bytes) (s .put .channel) d n in
+          all .1 (c .pusher) (d .pusher) k l u v (a .1) (b .1) (rw (a .0) at y) (rw (b .0) at z) e;
     }

@@ -1,6 +1,6 @@
 -- `SoundMoves`: an accepted map keeps the pusher safe. Assumes nothing.
 use Prim.Native.Nat.{ℕ, _+_, _*_, _/_, _≤_, _<_}
-use mathlib.Core.Path.{_≡_, refl, sym, _∙_}
+use mathlib.Core.Path.{_≡_, refl, sym, ap, subst, _∙_}
 use mathlib.Core.Bool.{Bool, false≢true}
 use mathlib.Core.List.{List}
 use mathlib.Core.Logic.{_⊎_, inl, inr, ⊎-elim}
@@ -9,6 +9,8 @@ use native.Mathlib.Omega.{arith}
 use lib.ListN.{length}
 use borrow.Author.Tests.{eqb-true, not-false}
 use Rattle.pusher.specs.Record.{number, halts}
+use Rattle.pusher.specs.Loan.{PusherLoan, withWords}
+use Rattle.pusher.specs.Many.{Moved, unmoved, move}
 use Rattle.pusher.specs.Moving.{Role, commands, submits, role}
 use Rattle.pusher.specs.Promises.{ReadsCommand, ReadsParameter}
 use Rattle.pusher.specs.declared.record.Setup.{Setup}
@@ -18,30 +20,36 @@ use Rattle.pusher.proofs.Sentences.{runs}
 use Rattle.word.specs.Lent.{wordsOf}
 use Rattle.rules.specs.Reason.{Submission, submission, size}
 use Rattle.rules.specs.Judging.{settingOf}
-use Rattle.rules.specs.Promises.{SafePusher, FreshPusher, Moved, unmoved, move, SoundMoves}
+use Rattle.rules.specs.Promises.{SafePusher, FreshPusher, SoundMoves}
 use Rattle.rules.proofs.Table.{passed}
 use Rattle.rules.proofs.Clean.{Clean, clean, unstarted}
 use Rattle.rules.proofs.Moving.{Inv, run-permitted, after, starts-at}
 
 module _ (x : Submission) (map : List ℕ) (ok : Clean x map) (small : size x ≤ 1048576) where
+  -- a loan of these words
+  on-these : (l : PusherLoan) → l .words ≡ x .words → l ≡ withWords l (x .words)
+  on-these l w = ap (withWords l) w
+
   module _ (s : Setup) (setting : s .setting ≡ x .setting) (style : x .setting .mode .number ≡ 0) (limit : (k : ℕ) → k < size x → 4 * k ≤ s .limit) where
     -- any number of moves keeps the invariant
     always : (p q : Pusher) → Inv x map p → Moved s (x .words) p q → Inv x map q
     always p q i unmoved = i
-    always p q i (move {q = o} es r l m e) =
-        rw (e, m) (after x map ok small s setting style limit o (always p o i l) es .pusher)
+    always p q i (move {q = o} l r m w h e) =
+        rw (e, h, on-these l w) (after x map ok small s setting style limit o (always p o i m) l .pusher)
 
     -- the facts at a role that the pusher is at
-    at-role : (p : Pusher) (es : List ℕ) (r : Role) → role s p (x .words) es ≡ r → Facts s p (x .words) es r
-    at-role p es r e = rw e at (facts s p (x .words) es)
+    at-role : (p : Pusher) (l : PusherLoan) → l .words ≡ x .words → (r : Role) → role s p l ≡ r → Facts s p (withWords l (x .words)) r
+    at-role p l w r e =
+        let here : Facts s p l r = rw e at (facts s p l) in
+        subst (λ (k : PusherLoan). Facts s p k r) (on-these l w) here
 
     safe : (p : Pusher) → Inv x map p → SafePusher s (x .words) (x .permit) p
     unfolding halts
     safe p i =
         record {
           no-error = eqb-true _ _ (not-false _ (i .running));
-          permitted = λ es r m h v. after x map ok small s setting style limit p i es .permitted m (rw h at v);
-          parameter = λ es h. run-permitted x map p i (at-role p es submits h .3);
+          permitted = λ l r m w h v. after x map ok small s setting style limit p i l .permitted m (rw (h, on-these l w) at v);
+          parameter = λ l w h. run-permitted x map p i (at-role p l w submits h .3);
           closed = λ e.
               let a = i .address in
               let b = i .end in
@@ -54,16 +62,18 @@ module _ (x : Submission) (map : List ℕ) (ok : Clean x map) (small : size x �
         }
 
     apart :
-        (p q : Pusher) (es fs : List ℕ)
+        (p q : Pusher) (k l : PusherLoan)
+        → k .words ≡ x .words
+        → l .words ≡ x .words
         → Inv x map p
         → Inv x map q
-        → ReadsCommand s p (x .words) es
-        → ReadsParameter s q (x .words) fs
+        → ReadsCommand s p k
+        → ReadsParameter s q l
         → p .get / 4 ≡ q .get / 4
         → ⊥
-    apart p q es fs i j c h e =
-        let start = starts-at x map ok small s setting style limit p i es (at-role p es commands c) in
-        let f = at-role q fs submits h in
+    apart p q k l v w i j c h e =
+        let start = starts-at x map ok small s setting style limit p i k (at-role p k v commands c) in
+        let f = at-role q l w submits h in
         let n = f .3 in
         let a = i .address in
         let b = j .address in
@@ -96,10 +106,10 @@ begins level sli bytes map list s p ok f =
 pub sound-moves : SoundMoves
 sound-moves level sli bytes map list r j a s p f =
     let x = submission (settingOf level sli) bytes list in
-    let h = passed level sli bytes map list r j a in
+    let h = passed _ level sli bytes map list r j a in
     let ok = clean x map (h .0 .bytes-map) (h .1) in
     let i = begins level sli bytes map list s p ok f in
     let kept = always x map ok (h .0 .words) s (f .setting) refl (f .limit) p in (
       λ q m. safe x map ok (h .0 .words) s (f .setting) refl (f .limit) q (kept q i m),
-      λ q t es fs m n. apart x map ok (h .0 .words) s (f .setting) refl (f .limit) q t es fs (kept q i m) (kept t i n),
+      λ q t k l v w m n. apart x map ok (h .0 .words) s (f .setting) refl (f .limit) q t k l v w (kept q i m) (kept t i n),
     )

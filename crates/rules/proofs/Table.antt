@@ -3,33 +3,32 @@ use Prim.Native.Nat.{ℕ, _*_, _/_, _%_, _≤_, _<_}
 use mathlib.Core.Path.{_≡_, refl, sym, ap, _∙_}
 use mathlib.Core.Bool.{Bool, true, false, not}
 use mathlib.Core.List.{List, [], _∷_}
-use mathlib.Core.Logic.{inl, inr, _↔_}
+use mathlib.Core.Logic.{inl, inr, ⊎-elim, _↔_}
 use mathlib.Core.Option.{Option, none, some}
 use native.Mathlib.Omega.{arith}
 use lib.Dec.{eqb, ltb}
 use lib.ListN.{length}
 use borrow.Author.Tests.{eqb-true, eqb-false}
-use Rattle.word.specs.First.{first, Plain, FirstIs}
+use Rattle.word.specs.First.{first, PlainCase, FirstIs}
 use Rattle.word.specs.Setting.{refusedOr}
 use Rattle.word.proofs.First.{Agree}
 use Rattle.word.proofs.Tests.{not-plain, or-plain, and-plain, less-plain, equal-plain}
 use Rattle.channel.proofs.Refusals.{NoneOf, none-of}
 use Rattle.word.specs.Lent.{wordsOf}
 use Rattle.rules.specs.Reason.{submission}
-use Rattle.rules.specs.Judging.{judgeCases, judged, verdictOf, refusing, settingOf, judgeOf}
-use Rattle.rules.specs.Contracts.{Judges}
+use Rattle.rules.specs.Judging.{judgeCases, judged, verdictOf, refusing, settingOf, judgeUpTo}
 use Rattle.rules.specs.Promises.{judgePlain}
 use Rattle.rules.specs.declared.judging.Verdict.the-variants.{Accepted}
 use Rattle.rules.specs.declared.judging.Judgement.{Judgement}
 use Rattle.word.proofs.Bytes.{words-length}
 
 -- where no plain condition holds, nothing is refused
-none-first : (ps : List Plain) → NoneOf ps → (n : ℕ) → FirstIs ps n → ⊥
+none-first : (ps : List PlainCase) → NoneOf ps → (n : ℕ) → FirstIs ps n → ⊥
 none-first [] h n f = f
 none-first (p ∷ ps) h n (inl f) = h .0 (f .0)
 none-first (p ∷ ps) h n (inr f) = none-first ps (h .1) n (f .1)
 
-pub none-told : (o : Option ℕ) (ps : List Plain) → ((n : ℕ) → o ≡ some n ↔ FirstIs ps n) → NoneOf ps → o ≡ none
+pub none-told : (o : Option ℕ) (ps : List PlainCase) → ((n : ℕ) → o ≡ some n ↔ FirstIs ps n) → NoneOf ps → o ≡ none
 none-told none ps e h = refl
 none-told (some n) ps e h = absurd (none-first ps h n (e n .0 refl))
 
@@ -41,8 +40,8 @@ same a b h = go (eqb a b) refl
     go true e = eqb-true _ _ e
     go false e = absurd (h (eqb-false _ _ e))
 
-module _ (level : ℕ) (sli : Bool) (bytes map list : List ℕ) where
-  pub judge-agree : Agree (judgeCases 1048576 level sli bytes map list) (judgePlain level sli bytes map list)
+module _ (most level : ℕ) (sli : Bool) (bytes map list : List ℕ) where
+  pub judge-agree : Agree (judgeCases most level sli bytes map list) (judgePlain most level sli bytes map list)
   judge-agree =
       let unequal : (a b : ℕ) → not (eqb a b) ≡ true ↔ (a ≡ b → ⊥) = λ a b. not-plain (eqb a b) (equal-plain a b) in (
         refl,
@@ -52,7 +51,7 @@ module _ (level : ℕ) (sli : Bool) (bytes map list : List ℕ) where
           and-plain sli (ltb level 3) (λ e. e, λ e. e) (less-plain level 3),
           (
             refl,
-            less-plain (4 * 1048576) (length bytes),
+            less-plain (4 * most) (length bytes),
             (
               refl,
               or-plain _ _ (unequal (length bytes % 4) 0) (or-plain _ _ (unequal (length map) (length bytes / 4)) (unequal (length list) 2048)),
@@ -66,31 +65,49 @@ module _ (level : ℕ) (sli : Bool) (bytes map list : List ℕ) where
   pub record Fits : Type 0 where
     pub level-fits : level ≤ 5
     pub sli-fits : sli ≡ true → 3 ≤ level
-    pub words : length (wordsOf bytes) ≤ 1048576
+    pub words : length (wordsOf bytes) ≤ most
     pub bytes-map : length map ≡ length (wordsOf bytes)
 
-  pub fits : first (judgeCases 1048576 level sli bytes map list) ≡ none → Fits
-  fits e =
-      let n = none-of (judgeCases 1048576 level sli bytes map list) (judgePlain level sli bytes map list) judge-agree e in
-      let above : 5 < level → ⊥ = n .0 in
-      let over : 4 * 1048576 < length bytes → ⊥ = n .1 .1 .0 in
-      let equal = same (length map) (length bytes / 4) (λ u. n .1 .1 .1 .0 (inr (inl u))) in
+  named : NoneOf (judgePlain most level sli bytes map list) → Fits
+  named (above, (low, (over, (lengths, end)))) =
+      let equal = same (length map) (length bytes / 4) (λ u. lengths (inr (inl u))) in
       let count = words-length bytes in
       record {
         level-fits = omega arith;
-        sli-fits = λ s. let below : level < 3 → ⊥ = λ l. n .1 .0 (s, l) in omega arith;
+        sli-fits = λ s. let below : level < 3 → ⊥ = λ l. low (s, l) in omega arith;
         words = omega arith;
         bytes-map = omega arith;
       }
 
+  -- and what it then is not
+  pub unrefused :
+      level ≤ 5
+      → (sli ≡ true → 3 ≤ level)
+      → length bytes ≤ 4 * most
+      → length bytes % 4 ≡ 0
+      → length map ≡ length bytes / 4
+      → length list ≡ 2048
+      → NoneOf (judgePlain most level sli bytes map list)
+  unrefused level-fits sli-fits small whole bytes-map permit = (
+    λ l. omega arith,
+    (λ e. omega (arith, e .1, sli-fits (e .0)), (λ l. omega arith, (λ n. ⊎-elim (λ u. u whole) (λ m. ⊎-elim (λ u. u bytes-map) (λ u. u permit) m) n, tt))),
+  )
+
+  pub fits : first (judgeCases most level sli bytes map list) ≡ none → Fits
+  fits e = named (none-of (judgeCases most level sli bytes map list) (judgePlain most level sli bytes map list) judge-agree e)
+
   -- what is accepted has passed the table, and the verdict is the judgement's
-  pub passed : (r : Judgement) → Judges level sli bytes map list r → r .verdict ≡ Accepted → Fits × (verdictOf (submission (settingOf level sli) bytes list) map ≡ Accepted)
-  unfolding judgeOf refusedOr
-  passed r j a = go (first (judgeCases 1048576 level sli bytes map list)) refl (sym (ap (λ (y : Judgement). y .verdict) j) ∙ a)
+  pub passed :
+      (r : Judgement)
+      → r ≡ judgeUpTo most level sli bytes map list
+      → r .verdict ≡ Accepted
+      → Fits × (verdictOf (submission (settingOf level sli) bytes list) map ≡ Accepted)
+  unfolding judgeUpTo refusedOr
+  passed r j a = go (first (judgeCases most level sli bytes map list)) refl (sym (ap (λ (y : Judgement). y .verdict) j) ∙ a)
     where
       go :
           (o : Option ℕ)
-          → first (judgeCases 1048576 level sli bytes map list) ≡ o
+          → first (judgeCases most level sli bytes map list) ≡ o
           → refusedOr refusing o (judged level sli bytes map list) .verdict ≡ Accepted
           → Fits × (verdictOf (submission (settingOf level sli) bytes list) map ≡ Accepted)
       go none e h = (fits e, h)

@@ -1,10 +1,30 @@
--- The paper's numbers of the answer: a verdict's reason and refusal, none where there is none, and its values.
+-- The paper's numbers of the answers, none where there is none, and their values.
 use Prim.Native.Nat.{ℕ}
 use mathlib.Core.List.{List, [], _∷_}
 use mathlib.Core.Option.{Option, none, some}
+use Rattle.rules.specs.declared.pair.Pair.{Pair}
+use Rattle.rules.specs.declared.reason.Finding.{Finding}
+use Rattle.rules.specs.declared.reason.Finding.the-variants.{Nothing, Against}
+use Rattle.rules.specs.declared.judging.FirstRefused.{FirstRefused}
+use Rattle.rules.specs.declared.judging.FirstRefused.the-variants as first
 use Rattle.rules.specs.declared.judging.Verdict.{Verdict}
 use Rattle.rules.specs.declared.judging.Verdict.the-variants.{Accepted, Rejected, Refused}
 
+-- what is found: its reason
+unfoldable pub findingNumber : Finding → Option ℕ
+findingNumber Nothing = none
+findingNumber (Against r) = some (r .number)
+
+-- the first refused pair: its reason, and which it is
+unfoldable pub refusedNumber : FirstRefused → Option ℕ
+refusedNumber first.Nothing = none
+refusedNumber (first.At r q) = some (r .number)
+
+unfoldable pub refusedPairIn : FirstRefused → Option Pair
+refusedPairIn first.Nothing = none
+refusedPairIn (first.At r q) = some q
+
+-- a verdict: its reason, its refusal,
 unfoldable pub number : Verdict → Option ℕ
 number Accepted = none
 number (Rejected r p) = some (r .number)
@@ -15,7 +35,7 @@ verdictRefusal Accepted = none
 verdictRefusal (Rejected r p) = none
 verdictRefusal (Refused n) = some (n .number)
 
--- of a reason its place
+-- and of a reason its place
 unfoldable pub values : Verdict → List ℕ
 values Accepted = []
 values (Rejected r p) = p ∷ []

@@ -1,17 +1,42 @@
--- The contracts of the public functions, each as a predicate over inputs and answer. Neither writes lent memory: it is lent to be
--- read alone.
-use Prim.Native.Nat.{ℕ}
+-- The contracts of the public functions, each as a predicate over inputs and answer. None writes lent memory: it is lent to be read
+-- alone.
+use Prim.Native.Nat.{ℕ, _+_}
 use mathlib.Core.Path.{_≡_}
 use mathlib.Core.Bool.{Bool}
 use mathlib.Core.List.{List}
-use Rattle.rules.specs.Judging.{judgeOf}
-use Rattle.rules.specs.Packed.{packed, on}
+use Rattle.word.specs.First.{first}
+use Rattle.word.specs.declared.setting.Setting.{Setting}
+use Rattle.word.specs.declared.reading.Reading.{Reading}
+use Rattle.rules.specs.Map.{among}
+use Rattle.rules.specs.Next.{nexts, held}
+use Rattle.rules.specs.Reason.{submission, ownCases, arrivalCases, findingOf}
+use Rattle.rules.specs.Judging.{firstRefused, judgeOf}
+use Rattle.rules.specs.declared.pair.Pair.{Pair}
+use Rattle.rules.specs.declared.pair.Nexts.{Nexts}
+use Rattle.rules.specs.declared.reason.Finding.{Finding}
+use Rattle.rules.specs.declared.judging.FirstRefused.{FirstRefused}
 use Rattle.rules.specs.declared.judging.Judgement.{Judgement}
+
+-- `own_reason`, of setting, the words' bytes, the list of permitted methods, and a command with the pair at which it stands
+abbrev pub FindsOwn : Setting → List ℕ → List ℕ → Reading → ℕ → Bool → Finding → Type 0
+FindsOwn setting bytes list d p s r = r ≡ findingOf (first (ownCases (submission setting bytes list) d p s))
+
+-- `marked_among`, of the map, a command's place, and how many parameters follow it
+abbrev pub MarkedAmong : List ℕ → ℕ → ℕ → Bool → Type 0
+MarkedAmong map p c r = r ≡ among map (p + 1) c
+
+-- `arrival`, of how many words there are, a pair, and whether it lacks its mark
+abbrev pub Arrives : ℕ → Pair → Bool → Finding → Type 0
+Arrives n q lacks r = r ≡ findingOf (first (arrivalCases n q lacks))
+
+-- `nexts`, of a command and the pair at which it stands
+abbrev pub NextPairs : Reading → ℕ → Bool → Nexts → Type 0
+NextPairs d p s r = r ≡ held (nexts d p s)
+
+-- `first_refused`, of setting, the words' bytes, the map, and the list of permitted methods
+abbrev pub FirstRefuses : Setting → List ℕ → List ℕ → List ℕ → FirstRefused → Type 0
+FirstRefuses setting bytes map list r = r ≡ firstRefused (submission setting bytes list) map
 
 -- `judge`, of level, SLI setting, the words' bytes, the map, and the list of permitted methods
 abbrev pub Judges : ℕ → Bool → List ℕ → List ℕ → List ℕ → Judgement → Type 0
 Judges level sli bytes map list r = r ≡ judgeOf level sli bytes map list
-
--- `upborliya_judge`, the same with SLI as a number
-abbrev pub JudgesPacked : ℕ → ℕ → List ℕ → List ℕ → List ℕ → ℕ → Type 0
-JudgesPacked level sli bytes map list r = r ≡ packed (judgeOf level (on sli) bytes map list)

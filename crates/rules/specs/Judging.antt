@@ -11,8 +11,12 @@ use Rattle.word.specs.Setting.{LEVEL, SLI, SIZE, LENGTH, levelRefused, sliRefus
 use Rattle.word.specs.declared.setting.Refusal.{Refusal}
 use Rattle.word.specs.declared.setting.Setting.{Setting}
 use Rattle.rules.specs.Permit.{countOf}
-use Rattle.rules.specs.Map.{main, marked, tooWide}
+use Rattle.rules.specs.Map.{main, marked, overThree}
+use Rattle.rules.specs.Next.{_in-state_}
 use Rattle.rules.specs.Reason.{MAP_BYTE, NO_START, Submission, submission, size, reasonAt}
+use Rattle.rules.specs.declared.pair.Pair.{Pair}
+use Rattle.rules.specs.declared.judging.FirstRefused.{FirstRefused}
+use Rattle.rules.specs.declared.judging.FirstRefused.the-variants.{Nothing, At}
 use Rattle.rules.specs.declared.judging.Verdict.{Verdict}
 use Rattle.rules.specs.declared.judging.Verdict.the-variants.{Accepted, Rejected, Refused}
 use Rattle.rules.specs.declared.judging.Judgement.{Judgement}
@@ -59,18 +63,28 @@ stateOf k = eqb (k % 2) 1
 unfoldable pub refusedPair : Submission → List ℕ → ℕ → Bool
 refusedPair x map k = found? (atMark x map (placeOf k) (stateOf k))
 
-unfoldable pub rejected : Option ℕ → ℕ → Verdict
-rejected none p = Accepted
-rejected (some n) p = Rejected (record { number = n }) p
+-- a pair with its reason, if it has one; and the pair of a number, if there is one, with its reason
+unfoldable pub refusedAt : Pair → Option ℕ → FirstRefused
+refusedAt q none = Nothing
+refusedAt q (some n) = At (record { number = n }) q
 
-unfoldable pub pairVerdict : Submission → List ℕ → Option ℕ → Verdict
-pairVerdict x map none = Accepted
-pairVerdict x map (some k) = rejected (atMark x map (placeOf k) (stateOf k)) (placeOf k)
+unfoldable pub numberedPair : Submission → List ℕ → Option ℕ → FirstRefused
+numberedPair x map none = Nothing
+numberedPair x map (some k) = refusedAt (placeOf k in-state stateOf k) (atMark x map (placeOf k) (stateOf k))
+
+-- the first pair that is refused
+unfoldable pub firstRefused : Submission → List ℕ → FirstRefused
+firstRefused x map = numberedPair x map (lowest (refusedPair x map) (2 * size x))
+
+-- of which the verdict gives the place
+unfoldable pub pairVerdict : FirstRefused → Verdict
+pairVerdict Nothing = Accepted
+pairVerdict (At r q) = Rejected r (q .place)
 
 unfoldable pub verdictOf : Submission → List ℕ → Verdict
 verdictOf x map =
-    firstOf (placeVerdict (lowest (tooWide map) (size x)))
-    (firstOf (startVerdict map) (pairVerdict x map (lowest (refusedPair x map) (2 * size x))))
+    firstOf (placeVerdict (lowest (overThree map) (size x)))
+    (firstOf (startVerdict map) (pairVerdict (firstRefused x map)))
 
 -- "The answer also gives the count of set permit bits, 0 on a refusal from the table above."
 abbrev pub refusing : Refusal → Judgement
@@ -84,5 +98,10 @@ settingOf level sli = record { level = record { number = level }; mode = record 
 abbrev pub judged : ℕ → Bool → List ℕ → List ℕ → List ℕ → Judgement
 judged level sli bytes map list = record { verdict = verdictOf (submission (settingOf level sli) bytes list) map; count = countOf list }
 
-unfoldable pub judgeOf : ℕ → Bool → List ℕ → List ℕ → List ℕ → Judgement
-judgeOf level sli bytes map list = refusedOr refusing (first (judgeCases 1048576 level sli bytes map list)) (judged level sli bytes map list)
+-- the judgement where so many words may be lent,
+unfoldable pub judgeUpTo : ℕ → ℕ → Bool → List ℕ → List ℕ → List ℕ → Judgement
+judgeUpTo most level sli bytes map list = refusedOr refusing (first (judgeCases most level sli bytes map list)) (judged level sli bytes map list)
+
+-- and the gatekeeper's: SIZE is "over 1,048,576 words"
+abbrev pub judgeOf : ℕ → Bool → List ℕ → List ℕ → List ℕ → Judgement
+judgeOf level sli bytes map list = judgeUpTo 1048576 level sli bytes map list

@@ -1,11 +1,11 @@
 pub mod Permit
 pub mod Map
 pub mod Parameters
+pub mod Next
 pub mod Reason
 pub mod Judging
 pub mod Path
 pub mod Answers
-pub mod Packed
 pub mod Contracts
 pub mod Promises
 pub mod Reasons

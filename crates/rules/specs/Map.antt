@@ -6,6 +6,7 @@ use lib.Bits.{bitOr}
 use lib.Dec.{eqb, ltb}
 use lib.ListN.{length, getD}
 use Rattle.word.specs.Lowest.{lowest, found?}
+use Rattle.rules.specs.declared.pair.Pair.{Pair}
 
 -- The two states of a place: in main, or inside a subroutine.
 abbrev pub main : Bool
@@ -19,11 +20,11 @@ unfoldable pub marked : List ℕ → ℕ → Bool → Bool
 marked map p false = eqb (getD map p 0 % 2) 1
 marked map p true = eqb (getD map p 0 / 2 % 2) 1
 
-unfoldable pub unmarked : List ℕ → ℕ → Bool → Bool
-unmarked map p s = not (marked map p s)
+unfoldable pub unmarked : List ℕ → Pair → Bool
+unmarked map q = not (marked map (q .place) (q .inside))
 
-unfoldable pub tooWide : List ℕ → ℕ → Bool
-tooWide map p = ltb 3 (getD map p 0)
+unfoldable pub overThree : List ℕ → ℕ → Bool
+overThree map p = ltb 3 (getD map p 0)
 
 -- whether place p is marked for either state
 unfoldable pub starts : List ℕ → ℕ → Bool

@@ -1,45 +1,49 @@
 -- The parameters of a command, and the methods that they go to.
-use Prim.Native.Nat.{ℕ, _+_, _*_, _/_, _%_, _<_}
+use Prim.Native.Nat.{ℕ, _+_, _/_, _%_}
 use mathlib.Core.Bool.{Bool, true, false, not}
 use mathlib.Core.List.{List}
 use Rattle.word.specs.First.{choose}
 use Rattle.word.specs.Lowest.{lowest, found?}
+use Rattle.word.specs.Reading.{parameterCount}
 use Rattle.word.specs.Special.{presentOf}
+use Rattle.word.specs.declared.setting.Setting.{Setting}
 use Rattle.word.specs.declared.reading.Reading.{Reading}
 use Rattle.word.specs.declared.reading.Reading.the-variants.{Increasing, NonIncreasing, Sli, Return, Long, OldJump, Jump, Call, Reserved, Refused}
 use Rattle.rules.specs.Permit.{permits}
-use Rattle.rules.specs.declared.parameters.Parameters.{Parameters}
+use Rattle.rules.specs.declared.parameters.Methods.{Methods}
 
-abbrev none : Parameters
-none = record { count = 0; subchannel = 0; method = 0; increasing = false }
+-- the place after a command's parameters, p being its own
+abbrev pub placeAfter : Reading → ℕ → ℕ
+placeAfter d p = p + 1 + parameterCount d
 
--- "Count bits 28-18, subchannel 15-13, method bits 12-2": the method's number is its byte number divided by 4
-unfoldable pub parametersOf : Reading → Parameters
-parametersOf (Increasing c b m) = record { count = c; subchannel = b; method = m / 4; increasing = true }
-parametersOf (NonIncreasing c b m) = record { count = c; subchannel = b; method = m / 4; increasing = false }
-parametersOf (Sli k) = none
-parametersOf Return = none
-parametersOf (Long b m c) = none
-parametersOf (OldJump t) = none
-parametersOf (Jump t) = none
-parametersOf (Call t) = none
-parametersOf Reserved = none
-parametersOf (Refused r) = none
+abbrev pub noMethods : Methods
+noMethods = record { subchannel = 0; method = 0; increasing = false }
+
+-- "subchannel 15-13, method bits 12-2": a method's number is its byte number divided by 4
+unfoldable pub methodsOf : Reading → Methods
+methodsOf (Increasing c b m) = record { subchannel = b; method = m / 4; increasing = true }
+methodsOf (NonIncreasing c b m) = record { subchannel = b; method = m / 4; increasing = false }
+methodsOf (Sli k) = noMethods
+methodsOf Return = noMethods
+methodsOf (Long b m c) = record { subchannel = b; method = m / 4; increasing = false }
+methodsOf (OldJump t) = noMethods
+methodsOf (Jump t) = noMethods
+methodsOf (Call t) = noMethods
+methodsOf Reserved = noMethods
+methodsOf (Refused r) = noMethods
 
 -- "an increasing method then rises by one modulo 2,048": the method of parameter k, from 0
-unfoldable pub methodFor : Parameters → ℕ → ℕ
-methodFor ps k = choose (ps .increasing) ((ps .method + k) % 2048) (ps .method)
+unfoldable pub methodFor : Methods → ℕ → ℕ
+methodFor ms k = choose (ms .increasing) ((ms .method + k) % 2048) (ms .method)
+
+-- whether a test fails at the method of any of n parameters
+unfoldable pub anyFails : (ℕ → Bool) → Methods → ℕ → Bool
+anyFails test ms n = found? (lowest (λ k. not (test (methodFor ms k))) n)
 
 -- "A method below 0x100 that the level lacks", of any parameter
-unfoldable pub lacking : ℕ → Parameters → Bool
-lacking level ps = found? (lowest (λ k. not (presentOf level (4 * methodFor ps k))) (ps .count))
+unfoldable pub lacking : Setting → Reading → Bool
+lacking setting d = anyFails (presentOf (setting .level .number)) (methodsOf d) (parameterCount d)
 
 -- a "method not permitted", of any parameter
-unfoldable pub denied : List ℕ → Parameters → Bool
-denied list ps = found? (lowest (λ k. not (permits list (ps .subchannel) (methodFor ps k))) (ps .count))
-
--- "count bits 28-18, subchannel 15-13, method bits 12-2": what a word's numbers are below
-pub record Fit (ps : Parameters) : Type 0 where
-  pub count : ps .count < 2048
-  pub subchannel : ps .subchannel < 8
-  pub method : ps .method < 2048
+unfoldable pub denied : List ℕ → Reading → Bool
+denied list d = anyFails (permits list (methodsOf d .subchannel)) (methodsOf d) (parameterCount d)

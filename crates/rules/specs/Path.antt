@@ -6,15 +6,17 @@ use mathlib.Core.List.{List, [], _∷_}
 use mathlib.Core.Logic.{_⊎_, _↔_}
 use mathlib.Core.Option.{none}
 use lib.ListN.{length, getD}
+use Rattle.word.specs.Reading.{parameterCount}
 use Rattle.word.specs.declared.reading.Reading.{Reading}
 use Rattle.rules.specs.Map.{main, inside}
-use Rattle.rules.specs.Parameters.{parametersOf}
-use Rattle.rules.specs.Reason.{Pair, nexts, Submission, size, commandAt, flawAt}
+use Rattle.rules.specs.Next.{nexts}
+use Rattle.rules.specs.Reason.{Submission, size, commandAt, flawAt}
+use Rattle.rules.specs.declared.pair.Pair.{Pair}
 
 -- a place in a state is one of these pairs
 abbrev pub OneOf : List Pair → ℕ → Bool → Type 0
 OneOf [] q t = ⊥
-OneOf (x ∷ xs) q t = ((q ≡ x .place) × (t ≡ x .state)) ⊎ OneOf xs q t
+OneOf (x ∷ xs) q t = ((q ≡ x .place) × (t ≡ x .inside)) ⊎ OneOf xs q t
 
 -- (q, t) is a next pair of the command d at (p, s)
 abbrev pub Next : Reading → ℕ → Bool → ℕ → Bool → Type 0
@@ -40,7 +42,7 @@ pub data Bad (x : Submission) : ℕ → Type 0 where
       → Reached x p s
       → Reached x q t
       → p < q
-      → q ≤ p + parametersOf (commandAt x p) .count
+      → q ≤ p + parameterCount (commandAt x p)
       → Bad x p
 
 -- "the map that marks exactly the reached places": a byte a word, 1 if reached in main, plus 2 if reached inside a subroutine

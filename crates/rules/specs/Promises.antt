@@ -7,36 +7,42 @@ use mathlib.Core.List.{List, [], _∷_}
 use mathlib.Core.Logic.{_⊎_, _↔_}
 use mathlib.Core.Option.{none, some}
 use lib.ListN.{length, getD}
-use Rattle.word.specs.First.{choose, Plain, _if_, FirstIs}
+use Rattle.word.specs.First.{choose, PlainCase, _if_, FirstIs}
 use Rattle.word.specs.Setting.{LEVEL, SLI, SIZE, LENGTH}
 use Rattle.word.specs.Answers.{checkRefusal}
+use Rattle.word.specs.declared.setting.Setting.{Setting}
+use Rattle.word.specs.declared.reading.Reading.{Reading}
 use Rattle.event.specs.declared.Kind.{Kind}
-use Rattle.event.specs.declared.Kind.the-variants as kind
 use Rattle.event.specs.declared.Method.{Method}
 use Rattle.event.specs.declared.Event.the-variants.{Of}
 use Rattle.pusher.specs.Record as pusher-record
 use Rattle.pusher.specs.Contracts.{Moves}
+use Rattle.pusher.specs.Loan.{PusherLoan}
+use Rattle.pusher.specs.Many.{Moved, Submits}
 use Rattle.pusher.specs.Promises.{ReadsCommand, ReadsParameter}
 use Rattle.pusher.specs.declared.record.Setup.{Setup}
 use Rattle.pusher.specs.declared.record.Pusher.{Pusher}
-use Rattle.pusher.specs.declared.moving.Did.the-variants as did
 use Rattle.pusher.specs.declared.moving.Pushed.{Pushed}
 use Rattle.channel.specs.Answers.{openingRefusal, stepRefusal}
 use Rattle.channel.specs.Contracts.{Opens, Puts, StepsTo}
-use Rattle.channel.specs.Promises.{BadTable, Twice, Words, GoesOn}
+use Rattle.channel.specs.Loan.{Loan}
+use Rattle.channel.specs.Promises.{BadTable, Twice, GoesOn}
 use Rattle.channel.specs.declared.record.Channel.{Channel}
 use Rattle.channel.specs.declared.opening.Opened.{Opened}
 use Rattle.channel.specs.declared.putting.Put.{Put}
 use Rattle.channel.specs.declared.stepping.Answer.the-variants as answer
 use Rattle.channel.specs.declared.stepping.Stepped.{Stepped}
-use Rattle.word.specs.Lent.{wordsOf}
+use Rattle.word.specs.Lent.{Words, wordsOf}
 use Rattle.rules.specs.Permit.{permits}
 use Rattle.rules.specs.Reason.{submission}
 use Rattle.rules.specs.Judging.{settingOf}
 use Rattle.rules.specs.Path.{Bad, Exact}
-use Rattle.rules.specs.Answers.{number, verdictRefusal, values}
-use Rattle.rules.specs.Packed.{on}
-use Rattle.rules.specs.Contracts.{Judges, JudgesPacked}
+use Rattle.rules.specs.Answers.{number, verdictRefusal}
+use Rattle.rules.specs.Contracts.{FindsOwn, MarkedAmong, Arrives, NextPairs, FirstRefuses, Judges}
+use Rattle.rules.specs.declared.pair.Pair.{Pair}
+use Rattle.rules.specs.declared.pair.Nexts.{Nexts}
+use Rattle.rules.specs.declared.reason.Finding.{Finding}
+use Rattle.rules.specs.declared.judging.FirstRefused.{FirstRefused}
 use Rattle.rules.specs.declared.judging.Verdict.the-variants.{Accepted}
 use Rattle.rules.specs.declared.judging.Judgement.{Judgement}
 
@@ -46,13 +52,13 @@ Bytes l = (i : ℕ) → getD l i 0 < 2 ^ 8
 
 -- Promise 1.
 
--- "Gatekeeper: 1, 4, 8, 9", in plain terms: LEVEL "level above 5", SLI "SLI enabled below level 3", SIZE "pushbuffer ... over
--- 1,048,576 words", LENGTH "words lent as bytes not a multiple of 4, map not one byte a word, or permit list not 2,048 bytes"
-abbrev pub judgePlain : ℕ → Bool → List ℕ → List ℕ → List ℕ → List Plain
-judgePlain level sli bytes map list =
+-- "Gatekeeper: 1, 4, 8, 9", in plain terms: LEVEL "level above 5", SLI "SLI enabled below level 3", SIZE "pushbuffer ... over" so
+-- many words, LENGTH "words lent as bytes not a multiple of 4, map not one byte a word, or permit list not 2,048 bytes"
+abbrev pub judgePlain : ℕ → ℕ → Bool → List ℕ → List ℕ → List ℕ → List PlainCase
+judgePlain most level sli bytes map list =
     LEVEL if (5 < level)
     ∷ SLI if ((sli ≡ true) × (level < 3))
-    ∷ SIZE if (4 * 1048576 < length bytes)
+    ∷ SIZE if (4 * most < length bytes)
     ∷ LENGTH if ((length bytes % 4 ≡ 0 → ⊥) ⊎ ((length map ≡ length bytes / 4 → ⊥) ⊎ (length list ≡ 2048 → ⊥)))
     ∷ []
 
@@ -63,7 +69,7 @@ pub record Refused : Type 0 where
       (level : ℕ) (sli : Bool) (bytes map list : List ℕ) (r : Judgement)
       → Judges level sli bytes map list r
       → (n : ℕ)
-      → verdictRefusal (r .verdict) ≡ some n ↔ FirstIs (judgePlain level sli bytes map list) n
+      → verdictRefusal (r .verdict) ≡ some n ↔ FirstIs (judgePlain 1048576 level sli bytes map list) n
   pub nothing-else :
       (level : ℕ) (sli : Bool) (bytes map list : List ℕ) (r : Judgement)
       → Judges level sli bytes map list r
@@ -73,12 +79,20 @@ pub record Refused : Type 0 where
 
 -- Each contract leaves one outcome.
 pub record One : Type 0 where
-  pub judge : (level : ℕ) (sli : Bool) (bytes map list : List ℕ) (a b : Judgement) → Judges level sli bytes map list a → Judges level sli bytes map list b → a ≡ b
-  pub judge-packed :
-      (level sli : ℕ) (bytes map list : List ℕ) (a b : ℕ)
-      → JudgesPacked level sli bytes map list a
-      → JudgesPacked level sli bytes map list b
+  pub own-reason :
+      (setting : Setting) (bytes list : List ℕ) (d : Reading) (p : ℕ) (s : Bool) (a b : Finding)
+      → FindsOwn setting bytes list d p s a
+      → FindsOwn setting bytes list d p s b
       → a ≡ b
+  pub marked-among : (map : List ℕ) (p c : ℕ) (a b : Bool) → MarkedAmong map p c a → MarkedAmong map p c b → a ≡ b
+  pub arrival : (n : ℕ) (q : Pair) (lacks : Bool) (a b : Finding) → Arrives n q lacks a → Arrives n q lacks b → a ≡ b
+  pub nexts : (d : Reading) (p : ℕ) (s : Bool) (a b : Nexts) → NextPairs d p s a → NextPairs d p s b → a ≡ b
+  pub first-refused :
+      (setting : Setting) (bytes map list : List ℕ) (a b : FirstRefused)
+      → FirstRefuses setting bytes map list a
+      → FirstRefuses setting bytes map list b
+      → a ≡ b
+  pub judge : (level : ℕ) (sli : Bool) (bytes map list : List ℕ) (a b : Judgement) → Judges level sli bytes map list a → Judges level sli bytes map list b → a ≡ b
 
 -- how many numbers below n pass a test, and the sum of the values below n
 unfoldable pub howMany : (ℕ → Bool) → ℕ → ℕ
@@ -102,36 +116,7 @@ Counted =
     → verdictRefusal (r .verdict) ≡ none
     → r .count ≡ permittedPairs list
 
--- What the number for C says: each part of it is what the answer has, and both bytes 0 is accepted.
-pub record Unpacked (n : ℕ) (r : Judgement) : Type 0 where
-  pub reason : (k : ℕ) → number (r .verdict) ≡ some k → n % 2 ^ 8 ≡ k
-  pub no-reason : number (r .verdict) ≡ none → n % 2 ^ 8 ≡ 0
-  pub refusal : (k : ℕ) → verdictRefusal (r .verdict) ≡ some k → n / 2 ^ 8 % 2 ^ 8 ≡ k
-  pub no-refusal : verdictRefusal (r .verdict) ≡ none → n / 2 ^ 8 % 2 ^ 8 ≡ 0
-  pub spare : n / 2 ^ 16 % 2 ^ 8 ≡ 0
-  pub count : n / 2 ^ 24 % 2 ^ 16 ≡ r .count
-  pub place : (p : ℕ) → values (r .verdict) ≡ p ∷ [] → n / 2 ^ 40 ≡ p
-  pub no-place : values (r .verdict) ≡ [] → n / 2 ^ 40 ≡ 0
-  pub accepted : ((n % 2 ^ 8 ≡ 0) × (n / 2 ^ 8 % 2 ^ 8 ≡ 0)) ↔ (r .verdict ≡ Accepted)
-
-abbrev pub GivesBack : Type 0
-GivesBack =
-    (level sli : ℕ) (bytes map list : List ℕ) (r : Judgement) (n : ℕ)
-    → Bytes list
-    → Judges level (on sli) bytes map list r
-    → JudgesPacked level sli bytes map list n
-    → (n < 2 ^ 64) × Unpacked n r
-
 -- Promise 3, its first half. Of the pusher's moves alone, with whatever the puller does in between:
-
--- q comes of p by any number of moves on these words, at each with any IB entries
-pub data Moved (s : Setup) (ws : List ℕ) (p : Pusher) : Pusher → Type 0 where
-  unmoved : Moved s ws p p
-  move : {q t : Pusher} (es : List ℕ) (x : Pushed) → Moved s ws p q → Moves s q ws es x → t ≡ x .pusher → Moved s ws p t
-
--- a move submits a method: it is handed to the puller, or discarded
-abbrev pub Submits : Pushed → Method → Type 0
-Submits x m = (x .did ≡ did.Submit m) ⊎ (x .did ≡ did.Event (Of kind.Discard m))
 
 -- neither a command nor a subroutine is open
 pub record Closed (p : Pusher) : Type 0 where
@@ -145,12 +130,13 @@ pub record SafePusher (s : Setup) (ws list : List ℕ) (p : Pusher) : Type 0 whe
   pub no-error : pusher-record.number (p .error) ≡ 0
   -- "submits only permitted methods"
   pub permitted :
-      (es : List ℕ) (x : Pushed) (m : Method)
-      → Moves s p ws es x
+      (l : PusherLoan) (x : Pushed) (m : Method)
+      → l .words ≡ ws
+      → Moves s p l x
       → Submits x m
       → permits list (m .subchannel) (m .method / 4) ≡ true
   -- so too by the word: one that is read as a parameter goes to a permitted method
-  pub parameter : (es : List ℕ) → ReadsParameter s p ws es → permits list (p .run .subchannel) (p .run .method) ≡ true
+  pub parameter : (l : PusherLoan) → l .words ≡ ws → ReadsParameter s p l → permits list (p .run .subchannel) (p .run .method) ≡ true
   -- "has no command or subroutine open when its read address reaches put"
   pub closed : p .get ≡ p .put → Closed p
 
@@ -173,11 +159,13 @@ SoundMoves =
     → FreshPusher level sli (wordsOf bytes) s p
     → ((q : Pusher) → Moved s (wordsOf bytes) p q → SafePusher s (wordsOf bytes) list q)
     -- "reads no word both as command and as parameter": whatever moves led to either reading
-    × ((q t : Pusher) (es fs : List ℕ)
+    × ((q t : Pusher) (k l : PusherLoan)
+    → k .words ≡ wordsOf bytes
+    → l .words ≡ wordsOf bytes
     → Moved s (wordsOf bytes) p q
     → Moved s (wordsOf bytes) p t
-    → ReadsCommand s q (wordsOf bytes) es
-    → ReadsParameter s t (wordsOf bytes) fs
+    → ReadsCommand s q k
+    → ReadsParameter s t l
     → q .get / 4 ≡ t .get / 4
     → ⊥)
 
@@ -200,58 +188,62 @@ pub record Started (level : ℕ) (sli : Bool) (ws : List ℕ) : Type 0 where
   pub put : Put
   pub puts : Puts (opened .channel) (4 * length ws) put
 
--- table and semaphore memory of sizes that a step does not refuse; a table has words of 32 bits
-pub record Lent (t sems : List ℕ) : Type 0 where
-  pub table : BadTable t → ⊥
-  pub words : Words t
-  pub semaphores : length sems ≤ 1048576
+-- a loan of these words, with table and semaphore memory of sizes that a step does not refuse; a table has words of 32 bits
+pub record Lendable (ws : List ℕ) (l : Loan) : Type 0 where
+  pub words : l .pusher .words ≡ ws
+  pub table : BadTable (l .puller .table) → ⊥
+  pub table-words : Words (l .puller .table)
+  pub semaphores : length (l .puller .semaphores) ≤ 1048576
 
--- d comes of c by any number of steps on these words, at each with its own IB entries, table and semaphore memory
-pub data Later (ws : List ℕ) (c : Channel) : Channel → Type 0 where
-  now : Later ws c c
+-- d comes of c by any number of steps on these words, at each with its own loan of all else
+pub data AfterSteps (ws : List ℕ) (c : Channel) : Channel → Type 0 where
+  now : AfterSteps ws c c
   step :
-      {d e : Channel} (es t sems exit : List ℕ) (r : Stepped)
-      → Later ws c d
-      → Lent t sems
-      → StepsTo d ws es t sems r exit
+      {d e : Channel} (l : Loan) (exit : List ℕ) (r : Stepped)
+      → AfterSteps ws c d
+      → Lendable ws l
+      → StepsTo d l r exit
       → e ≡ r .channel
-      → Later ws c e
+      → AfterSteps ws c e
 
 -- what holds of a channel at any time
 pub record Safe (ws list : List ℕ) (c : Channel) : Type 0 where
   pub no-pusher-error : pusher-record.number (c .pusher .error) ≡ 0
   -- no step is refused
-  pub taken : (es t sems exit : List ℕ) (r : Stepped) → Lent t sems → StepsTo c ws es t sems r exit → stepRefusal (r .answer) ≡ none
+  pub taken : (l : Loan) (exit : List ℕ) (r : Stepped) → Lendable ws l → StepsTo c l r exit → stepRefusal (r .answer) ≡ none
   -- each method submitted, whether delivered, discarded or failing in the puller, is permitted
   pub permitted :
-      (es : List ℕ) (x : Pushed) (m : Method)
+      (l : PusherLoan) (x : Pushed) (m : Method)
+      → l .words ≡ ws
       → GoesOn c
-      → Moves (c .setup) (c .pusher) ws es x
+      → Moves (c .setup) (c .pusher) l x
       → Submits x m
       → permits list (m .subchannel) (m .method / 4) ≡ true
   -- and so is each method that a step tells
   pub told :
-      (es t sems exit : List ℕ) (k : Kind) (m : Method) (r : Stepped)
-      → Lent t sems
-      → StepsTo c ws es t sems r exit
+      (l : Loan) (exit : List ℕ) (k : Kind) (m : Method) (r : Stepped)
+      → Lendable ws l
+      → StepsTo c l r exit
       → r .answer ≡ answer.Event (Of k m)
       → permits list (m .subchannel) (m .method / 4) ≡ true
   pub closed : c .pusher .get ≡ c .pusher .put → Closed (c .pusher)
 
-pub record Run (level : ℕ) (sli : Bool) (ws list : List ℕ) (start : Started level sli ws) : Type 0 where
+pub record StaysSafe (level : ℕ) (sli : Bool) (ws list : List ℕ) (start : Started level sli ws) : Type 0 where
   -- opening and put are not refused
   pub opens : openingRefusal (start .opened .answer) ≡ none
   pub puts : checkRefusal (start .put .answer) ≡ none
-  pub safe : (c : Channel) → Later ws (start .put .channel) c → Safe ws list c
+  pub safe : (c : Channel) → AfterSteps ws (start .put .channel) c → Safe ws list c
   -- no word is read both as command and as parameter, by any two steps
   pub apart :
-      (c d : Channel) (es fs : List ℕ)
-      → Later ws (start .put .channel) c
-      → Later ws (start .put .channel) d
+      (c d : Channel) (k l : PusherLoan)
+      → k .words ≡ ws
+      → l .words ≡ ws
+      → AfterSteps ws (start .put .channel) c
+      → AfterSteps ws (start .put .channel) d
       → GoesOn c
       → GoesOn d
-      → ReadsCommand (c .setup) (c .pusher) ws es
-      → ReadsParameter (d .setup) (d .pusher) ws fs
+      → ReadsCommand (c .setup) (c .pusher) k
+      → ReadsParameter (d .setup) (d .pusher) l
       → c .pusher .get / 4 ≡ d .pusher .get / 4
       → ⊥
 
@@ -262,7 +254,7 @@ Sound =
     → Judges level sli bytes map list r
     → r .verdict ≡ Accepted
     → (start : Started level sli (wordsOf bytes))
-    → Run level sli (wordsOf bytes) list start
+    → StaysSafe level sli (wordsOf bytes) list start
 
 -- Promise 3, its second half.
 

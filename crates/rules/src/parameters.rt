@@ -1,8 +1,8 @@
-// The parameters of a command: how many there are, and which methods they go to.
+// The parameters of a command.
 
-// `method` is the number of the first one's method, its byte number divided by 4.
-pub struct Parameters {
-    pub count: u32,
+// The methods that they go to: of one subchannel, `method` the number of the first one's, which is its
+// byte number divided by 4. An increasing one rises from parameter to parameter.
+pub struct Methods {
     pub subchannel: u32,
     pub method: u32,
     pub increasing: bool,

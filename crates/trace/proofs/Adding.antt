@@ -52,12 +52,13 @@ unfolding added
 add-both l [] b = refl
 add-both l (x ∷ a) b = add-both (pushed l x) a b
 
--- so lines grow text by text
-pub line-then : {m r : Line} (a b : List ℕ) → m ≡ lineOf a → r ≡ added m b → r ≡ lineOf (a ++ b)
-line-then a b e h = h ∙ ap (λ (x : Line). added x b) e ∙ add-line a b
-
+-- so a line grows text by text,
 pub add-then : {m r : Line} (l : Line) (a b : List ℕ) → m ≡ added l a → r ≡ added m b → r ≡ added l (a ++ b)
 add-then l a b e h = h ∙ ap (λ (x : Line). added x b) e ∙ add-both l a b
+
+-- and a whole line from the first text to the last
+pub whole-line : {m r : Line} (t : List ℕ) → m ≡ lineOf [] → r ≡ added m t → r ≡ lineOf t
+whole-line t e h = h ∙ ap (λ (x : Line). added x t) e ∙ add-line [] t
 
 -- one more byte of a text
 next-byte : (l : Line) (t : List ℕ) (i : ℕ) → i < length t → pushed (added l (take i t)) (getD t i 0) ≡ added l (take (suc i) t)

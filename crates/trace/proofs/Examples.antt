@@ -9,8 +9,8 @@ use lib.ListN.{length}
 use Rattle.word.specs.First.{choose, first}
 use Rattle.word.specs.Lowest.{keep, lowest, found?}
 use Rattle.word.specs.Lent.{wordsOf}
-use Rattle.word.specs.Parts.{fits, numbersIn}
-use Rattle.word.specs.Form.{inMode, increasing, nonIncreasing, sliConditional, returning, forms, formIn, usable}
+use Rattle.word.specs.Parts.{hasBits, numbersIn}
+use Rattle.word.specs.Form.{nowhere?, inMode, increasing, nonIncreasing, sliConditional, returning, forms, formIn, whyNot, usable}
 use Rattle.word.specs.Reading.{commandIn, readingOf, readOf}
 use Rattle.word.specs.Setting.{refusedOr}
 use Rattle.word.specs.Special.{specials, listed, presentOf}
@@ -25,13 +25,15 @@ use Rattle.pusher.specs.Moving as pusher
 use Rattle.channel.specs.State.{setupFits, within, addressBits, enginesFit, aligned, wellFormed}
 use Rattle.channel.specs.Opening.{duplicateOr, openingOf, heldOrder, opened, openOf}
 use Rattle.channel.specs.Putting.{putRefused, withPut, putOf}
+use Rattle.channel.specs.Idle.{idles}
+use Rattle.channel.specs.Many.{after}
 use Rattle.channel.specs.Stepping.{isStopped, role, finished, act, stepOf}
 use Rattle.trace.specs.Text.{text, orElse, width, decimal}
-use Rattle.trace.specs.Names.{kindName, pusherName, causeName, refusalName}
-use Rattle.trace.specs.End.{causeOf, idles, endingOf}
-use Rattle.trace.specs.Lines.{fields, eventText, stepText, endPart, endText, refusedText}
-use Rattle.trace.specs.Run.{programCases, beginOf}
-use Rattle.trace.specs.Printed.{after, endingAt, over?, stepsOf, answerText, linesFrom, endLine, runText, printed}
+use Rattle.trace.specs.Names.{kinds, kindName, pusherErrors, pusherName, causeName, refusals, refusalName}
+use Rattle.trace.specs.End.{causeOf, endingOf}
+use Rattle.trace.specs.Lines.{field, fields, eventText, stepText, endPart, endText, refusedText}
+use Rattle.trace.specs.LineByLine.{programCases, beginOf}
+use Rattle.trace.specs.Printed.{momentAfter, endingAt, over?, stepsOf, answerText, linesFrom, endLine, runText, printed}
 use Rattle.trace.specs.Promises.{Cases}
 
 -- the text of a run of n steps: it goes on before them, and is over after them
@@ -41,7 +43,7 @@ run-of :
     → n < 65536
     → lowest (λ i. over? (endingAt bytes i)) n ≡ none
     → over? (endingAt bytes n) ≡ true
-    → printed bytes ≡ linesFrom bytes 0 n ++ endLine (endingAt bytes n) n (after bytes n .channel)
+    → printed bytes ≡ linesFrom bytes 0 n ++ endLine (endingAt bytes n) n (momentAfter bytes n .channel)
 unfolding printed runText stepsOf orElse
 run-of bytes n few low before at =
     accepted _ (runText bytes) few ∙ rw (lowest-at (λ i. over? (endingAt bytes i)) 65536 n before low at)
@@ -51,7 +53,7 @@ unfolding printed refusedOr
 refusal-of bytes n e = rw e
 
 pub examples : Cases
-unfolding choose first keep lowest found? wordsOf fits numbersIn inMode increasing nonIncreasing sliConditional returning forms formIn usable commandIn readingOf readOf refusedOr specials listed presentOf number repeatAt repeatOf puller-record.number puller-record.halts puller.rows puller.deedIn puller.deedOf puller.act puller.takeOf pusher-record.number pusher-record.halts pusher.wordRole pusher.role pusher.advanced pusher.parameterOf pusher.begun pusher.returned pusher.commanded pusher.act pusher.pushOf setupFits within addressBits enginesFit aligned wellFormed duplicateOr openingOf heldOrder opened openOf putRefused withPut putOf isStopped role finished act stepOf text orElse width decimal kindName pusherName causeName refusalName causeOf idles endingOf fields eventText stepText endPart endText refusedText beginOf after over? answerText linesFrom endLine
+unfolding choose first keep lowest found? wordsOf hasBits numbersIn inMode increasing nonIncreasing sliConditional returning forms formIn nowhere? whyNot usable commandIn readingOf readOf refusedOr specials listed presentOf number repeatAt repeatOf puller-record.number puller-record.halts puller.rows puller.deedIn puller.deedOf puller.act puller.takeOf pusher-record.number pusher-record.halts pusher.wordRole pusher.role pusher.advanced pusher.parameterOf pusher.begun pusher.returned pusher.commanded pusher.act pusher.pushOf setupFits within addressBits enginesFit aligned wellFormed duplicateOr openingOf heldOrder opened openOf putRefused withPut putOf isStopped role finished act stepOf text orElse width decimal kinds kindName pusherErrors pusherName causeName refusals refusalName causeOf idles endingOf field fields eventText stepText endPart endText refusedText beginOf after over? answerText linesFrom endLine
 examples =
     record {
       paper = run-of _ 2 refl (omega arith) refl refl;

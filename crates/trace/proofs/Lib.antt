@@ -4,7 +4,7 @@ pub mod Names
 pub mod Loading
 pub mod Telling
 pub mod Room
-pub mod Idling
+pub mod Ends
 pub mod Turns
 pub mod Examples
 pub mod Promises

@@ -7,7 +7,7 @@ use lib.ListN.{length, getD, take, drop, set, length-take}
 use lib.Seq.{sets, length-sets, sets-eq, take-all, take-append-le, drop-append-seam}
 use Rattle.word.specs.Lent.{wordsOf}
 use Rattle.word.proofs.Bytes.{words-length}
-use Rattle.trace.specs.Run.{fitting}
+use Rattle.trace.specs.LineByLine.{fitting}
 use Rattle.trace.specs.Contracts.{Loads}
 
 -- one more word

@@ -1,7 +1,7 @@
 -- The promises about the trace, each under its name in specs/Promises.antt. Assumes nothing.
 use Prim.Native.Nat.{ℕ, _%_}
 use mathlib.Core.Path.{_≡_, refl, ap, _∙_}
-use mathlib.Core.List.{List, []}
+use mathlib.Core.List.{List}
 use native.Mathlib.Omega.{arith}
 use lib.Dec.{eqb}
 use Rattle.word.proofs.First.{one-outcome, Agree}
@@ -14,7 +14,7 @@ use Rattle.channel.specs.declared.stepping.Answer.{Answer}
 use Rattle.channel.specs.declared.stepping.Answer.the-variants as answer
 use Rattle.channel.proofs.Promises as channel
 use Rattle.trace.specs.End.{endingOf}
-use Rattle.trace.specs.Run.{fresh, traceAt, programCases, beginOf, Leaving, answered, orEnd, byStage}
+use Rattle.trace.specs.LineByLine.{fresh, traceAt, lending, programCases, beginOf, Leaving, answered, orEnd, byStage}
 use Rattle.trace.specs.Answers.{stageRefusal}
 use Rattle.trace.specs.Promises.{programPlain, Refused, One, Ended, Whole, Loaded, Printed, Cases}
 use Rattle.trace.specs.declared.end.Ending.{Ending}
@@ -24,7 +24,7 @@ use Rattle.trace.specs.declared.run.Stage.the-variants as stage
 use Rattle.trace.specs.declared.run.Trace.{Trace}
 use Rattle.trace.proofs.Loading.{in-front}
 use Rattle.trace.proofs.Room.{step-has, end-has, refused-has}
-use Rattle.trace.proofs.Idling.{if-stopped, by-pusher, by-puller, not-stopped, idle-iff, budget-iff}
+use Rattle.trace.proofs.Ends.{if-stopped, by-pusher, by-puller, not-stopped, idle-iff, budget-iff}
 use Rattle.trace.proofs.Turns.{prints}
 use Rattle.trace.proofs.Examples.{examples}
 
@@ -39,13 +39,13 @@ module _ (t : Trace) (ws sems : List ℕ) where
 
   -- a refused step leaves the semaphore words
   abbrev stepped : Outcome
-  stepped = stepOf (t .channel) ws [] [] sems
+  stepped = stepOf (t .channel) (lending ws sems)
 
   answer-same : (a : Answer) → stepped .stepped .answer ≡ a → Same (answered t (stepped .stepped .channel) (stepped .memory) a)
   unfolding answered stepRefusal
   answer-same (answer.Event e) h over = let z : _≡_ {A = ℕ} 0 1 = cc in absurd (omega arith)
   answer-same (answer.Refused r) h over =
-      (refl, channel.refused .step-unchanged (t .channel) ws [] [] sems (stepped .memory) (stepped .stepped) (record { answer = refl; memory = refl }) (r .number) (ap stepRefusal h) .1)
+      (refl, channel.refused .step-unchanged (t .channel) (lending ws sems) (stepped .memory) (stepped .stepped) (record { answer = refl; memory = refl }) (r .number) (ap stepRefusal h) .1)
 
   ending-same : (e : Ending) → Same (orEnd t ws sems e)
   unfolding orEnd
@@ -85,9 +85,8 @@ ended =
     record {
       pusher-error = λ c n a h e. let s = by-pusher c e in h ∙ if-stopped c n (s .0) ∙ rw (s .1);
       puller-error = λ c n a h z e. let s = by-puller c z e in h ∙ if-stopped c n (s .0) ∙ rw (s .1);
-      idle = λ c n a ws es t sems exit r h m k. rw (h, m .answer) (idle-iff c ws es t sems n (rw (m .answer) at k));
-      budget = λ c n a ws es t sems exit r h x y m k quiet.
-          rw h (budget-iff c ws es t sems n (rw (m .answer) at k) (not-stopped c x y) (λ e. quiet (rw (m .answer) e)));
+      idle = λ c n a l exit r h m k. rw h (idle-iff c l exit r m k n);
+      budget = λ c n a l exit r h x y m k quiet. rw h (budget-iff c l exit r m k n (not-stopped c x y) quiet);
     }
 
 pub whole : Whole

@@ -1,5 +1,6 @@
 -- Every line has room for its text. Assumes nothing.
 use Prim.Native.Nat.{ℕ, zero, suc, _+_, _-_, _/_, _^_, _≤_, min}
+use Prim.Native.String.{String}
 use mathlib.Core.Path.{_≡_, refl, ap, _∙_}
 use mathlib.Core.Bool.{Bool}
 use mathlib.Core.List.{List, _∷_, _++_}
@@ -12,27 +13,23 @@ use Rattle.word.specs.Lowest.{lowest}
 use Rattle.word.proofs.Lowest.{lowest-some}
 use Rattle.event.specs.Event.{number}
 use Rattle.event.specs.declared.Kind.{Kind}
-use Rattle.event.specs.declared.Kind.the-variants as kind
 use Rattle.event.specs.declared.Method.{Method}
 use Rattle.event.specs.declared.Event.{Event}
 use Rattle.event.specs.declared.Event.the-variants.{Plain, Of}
 use Rattle.pusher.specs.Record as pusher
-use Rattle.pusher.specs.declared.record.PusherError.{PusherError}
-use Rattle.pusher.specs.declared.record.PusherError.the-variants as pusher-cause
 use Rattle.puller.specs.Record as puller
-use Rattle.puller.specs.declared.record.PullerError.{PullerError}
-use Rattle.puller.specs.declared.record.PullerError.the-variants as puller-cause
 use Rattle.io.specs.Digits.{digits}
 use Rattle.trace.specs.Text.{text, orElse, width, decimal}
 use Rattle.trace.specs.Line.{lineOf}
-use Rattle.trace.specs.Names.{kindName, pusherName, pullerName, causeName, refusalName}
-use Rattle.trace.specs.Lines.{fields, eventText, stepText, endPart, endText, refusedText}
+use Rattle.trace.specs.Names.{kinds, kindName, pusherErrors, pullerErrors, pusherName, pullerName, causeName, refusals, refusalName}
+use Rattle.trace.specs.Lines.{field, fields, eventText, stepText, endPart, endText, refusedText}
 use Rattle.trace.specs.Promises.{Has}
 use Rattle.trace.specs.declared.line.Line.{Line}
 use Rattle.trace.specs.declared.end.Cause.{Cause}
 use Rattle.trace.specs.declared.end.Cause.the-variants.{Pusher, Puller}
 use Rattle.trace.specs.declared.end.End.{End}
 use Rattle.trace.specs.declared.end.End.the-variants.{Error, Idle, Budget}
+use Rattle.trace.proofs.Names.{short}
 
 -- a number has at most 21 digits
 digits-many : (k n : ℕ) → length (digits 10 k n) ≡ k
@@ -54,76 +51,31 @@ decimal-short : (n : ℕ) → length (decimal n) ≤ 21
 unfolding decimal
 decimal-short n = omega (arith, digits-many (width n) n, width-low n)
 
+field-short : (label : String) (n : ℕ) → length (field label n) ≤ length (text label) + 21
+unfolding field
+field-short label n = let digits = decimal-short n in simp (length-append {A = ℕ}) (omega arith)
+
 -- a kind's name has at most 7 bytes, a cause's 16, and a refusal's 9
 kind-short : (k : Kind) → length (text (kindName k)) ≤ 7
-unfolding text kindName number
-kind-short kind.Command = omega arith
-kind-short kind.Count = omega arith
-kind-short kind.Bind = omega arith
-kind-short kind.Ref = omega arith
-kind-short kind.Event = omega arith
-kind-short kind.Dma = omega arith
-kind-short kind.Offset = omega arith
-kind-short kind.Acquire = omega arith
-kind-short kind.Release = omega arith
-kind-short kind.Wait = omega arith
-kind-short kind.Forward = omega arith
-kind-short kind.Error = omega arith
-kind-short kind.Entry = omega arith
-kind-short kind.Discard = omega arith
-kind-short kind.Idle = omega arith
-kind-short kind.Stopped = omega arith
-
-pusher-short : (e : PusherError) → length (text (pusherName e)) ≤ 16
-unfolding text pusherName pusher.number
-pusher-short pusher-cause.None = omega arith
-pusher-short pusher-cause.Call = omega arith
-pusher-short pusher-cause.NonCache = omega arith
-pusher-short pusher-cause.Return = omega arith
-pusher-short pusher-cause.ReservedCmd = omega arith
-pusher-short pusher-cause.Ib = omega arith
-pusher-short pusher-cause.Protection = omega arith
-
-puller-short : (e : PullerError) → length (text (pullerName e)) ≤ 16
-unfolding text pullerName puller.number
-puller-short puller-cause.None = omega arith
-puller-short puller-cause.NoHash = omega arith
-puller-short puller-cause.EmptySubchannel = omega arith
-puller-short puller-cause.Semaphore1 = omega arith
-puller-short puller-cause.Semaphore2 = omega arith
-puller-short puller-cause.Semaphore3 = omega arith
-puller-short puller-cause.Semaphore4 = omega arith
+unfolding text kinds kindName
+kind-short k = short 7 kinds refl (number k)
 
 cause-short : (c : Cause) → length (text (causeName c)) ≤ 16
-unfolding causeName
-cause-short (Pusher e) = pusher-short e
-cause-short (Puller e) = puller-short e
+unfolding text pusherErrors pullerErrors pusherName pullerName causeName
+cause-short (Pusher e) = short 16 pusherErrors refl (pusher.number e)
+cause-short (Puller e) = short 16 pullerErrors refl (puller.number e)
 
 refusal-short : (n : ℕ) → length (text (refusalName n)) ≤ 9
-unfolding text refusalName
-refusal-short zero = omega arith
-refusal-short (suc zero) = omega arith
-refusal-short (suc (suc zero)) = omega arith
-refusal-short (suc (suc (suc zero))) = omega arith
-refusal-short (suc (suc (suc (suc zero)))) = omega arith
-refusal-short (suc (suc (suc (suc (suc zero))))) = omega arith
-refusal-short (suc (suc (suc (suc (suc (suc zero)))))) = omega arith
-refusal-short (suc (suc (suc (suc (suc (suc (suc zero))))))) = omega arith
-refusal-short (suc (suc (suc (suc (suc (suc (suc (suc zero)))))))) = omega arith
-refusal-short (suc (suc (suc (suc (suc (suc (suc (suc (suc zero))))))))) = omega arith
-refusal-short (suc (suc (suc (suc (suc (suc (suc (suc (suc (suc zero)))))))))) = omega arith
-refusal-short (suc (suc (suc (suc (suc (suc (suc (suc (suc (suc (suc zero))))))))))) = omega arith
-refusal-short (suc (suc (suc (suc (suc (suc (suc (suc (suc (suc (suc (suc zero)))))))))))) = omega arith
-refusal-short (suc (suc (suc (suc (suc (suc (suc (suc (suc (suc (suc (suc (suc zero))))))))))))) = omega arith
-refusal-short (suc (suc (suc (suc (suc (suc (suc (suc (suc (suc (suc (suc (suc (suc n)))))))))))))) = omega arith
+unfolding text refusals refusalName
+refusal-short n = short 9 refusals refl n
 
 -- so the parts of a line are short, and every line: at most 148 bytes
 fields-short : (m : Method) → length (fields m) ≤ 82
 unfolding fields text
 fields-short m =
-    let subchannel = decimal-short (m .subchannel) in
-    let method = decimal-short (m .method) in
-    let parameter = decimal-short (m .parameter) in
+    let subchannel = field-short " subc=" (m .subchannel) in
+    let method = field-short " mthd=" (m .method) in
+    let parameter = field-short " param=" (m .parameter) in
     simp (length-append {A = ℕ}) (omega arith)
 
 event-short : (e : Event) → length (eventText e) ≤ 89
@@ -134,8 +86,8 @@ event-short (Of k m) = let kind = kind-short k in let more = fields-short m in s
 step-short : (step get : ℕ) (e : Event) → length (stepText step get e) ≤ 148
 unfolding stepText text
 step-short step get e =
-    let a = decimal-short step in
-    let b = decimal-short get in
+    let a = field-short "step=" step in
+    let b = field-short " get=" get in
     let event = event-short e in
     simp (length-append {A = ℕ}) (omega arith)
 
@@ -149,9 +101,9 @@ end-short : (e : End) (steps get ref : ℕ) → length (endText e steps get ref)
 unfolding endText text
 end-short e steps get ref =
     let part = part-short e in
-    let a = decimal-short steps in
-    let b = decimal-short get in
-    let c = decimal-short ref in
+    let a = field-short " steps=" steps in
+    let b = field-short " get=" get in
+    let c = field-short " ref=" ref in
     simp (length-append {A = ℕ}) (omega arith)
 
 refused-short : (n : ℕ) → length (refusedText n) ≤ 18

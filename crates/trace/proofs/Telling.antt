@@ -2,7 +2,7 @@
 use Prim.Native.Nat.{ℕ, _+_, _<_}
 use mathlib.Core.Path.{_≡_, refl, sym, ap, subst, _∙_}
 use mathlib.Core.Bool.{false≢true}
-use mathlib.Core.List.{List, []}
+use mathlib.Core.List.{List}
 use borrow.Author.Tests.{leb-false}
 use Rattle.word.proofs.First.{by-test}
 use Rattle.word.specs.declared.setting.Refusal.{Refusal}
@@ -14,7 +14,7 @@ use Rattle.channel.specs.declared.stepping.Stepped.{Stepped}
 use Rattle.trace.specs.Line.{lineOf}
 use Rattle.trace.specs.Lines.{stepText, endText, refusedText}
 use Rattle.trace.specs.End.{endingOf}
-use Rattle.trace.specs.Run.{closed, closing, traceAt, answered, steppedOn, orEnd, running, byStage, tellOf}
+use Rattle.trace.specs.LineByLine.{lending, closed, closing, traceAt, answered, steppedOn, orEnd, running, byStage, tellOf}
 use Rattle.trace.specs.Printed.{over?}
 use Rattle.trace.specs.Contracts.{Leaves}
 use Rattle.trace.specs.declared.line.Line.{Line}
@@ -54,7 +54,7 @@ module _ (t : Trace) (ws sems : List ℕ) (a : Ending) (is : a ≡ endingOf (t .
   unfolding orEnd
   at-end e l told h k x = rw (sym is ∙ h, x, k) (record { answer = refl; memory = refl })
 
-  pub goes-on : (told : Told) (exit : List ℕ) → a ≡ GoesOn → Leaves (steppedOn t (stepOf (t .channel) ws [] [] sems)) told exit → Leaves (running t ws sems) told exit
+  pub goes-on : (told : Told) (exit : List ℕ) → a ≡ GoesOn → Leaves (steppedOn t (stepOf (t .channel) (lending ws sems))) told exit → Leaves (running t ws sems) told exit
   unfolding orEnd
   goes-on told exit h x = rw (sym is ∙ h) x
 

@@ -1,46 +1,38 @@
 -- `Printed`: the lines of a run, in turn, are what the program prints. Assumes nothing.
 use Prim.Native.Nat.{ℕ, zero, suc, _+_, _^_, _≤_, _<_}
 use mathlib.Core.Path.{_≡_, refl, sym, ap, subst, _∙_}
-use mathlib.Core.Bool.{Bool, true, false, not, false≢true}
+use mathlib.Core.Bool.{Bool, true, false, false≢true}
 use mathlib.Core.List.{List, [], _++_, append-assoc, append-nil}
+use mathlib.Core.Logic.{⊎-elim}
 use mathlib.Core.Option.{Option, none, some}
 use native.Mathlib.Numerals.{add-one}
 use native.Mathlib.Omega.{arith}
-use lib.ListN.{length, getD, take, replicate, length-set, length-replicate}
-use borrow.Author.Tests.{le-ltb, ltb-false, leb-false}
+use lib.ListN.{length, getD, take, replicate, length-replicate}
+use borrow.Author.Tests.{ltb-false, leb-false}
 use Rattle.word.specs.First.{first}
 use Rattle.word.specs.Lowest.{lowest}
 use Rattle.word.specs.Lent.{wordsOf}
 use Rattle.word.specs.Setting.{refusedOr}
-use Rattle.word.proofs.First.{by-test, fails-none, none-fails}
+use Rattle.word.proofs.First.{by-test, none-fails}
 use Rattle.word.proofs.Lowest.{lowest-some, lowest-none}
 use Rattle.word.proofs.Settings.{accepted}
 use Rattle.word.proofs.Bytes.{words-length, words-narrow}
 use Rattle.event.specs.declared.Event.{Event}
-use Rattle.event.specs.declared.Method.{Method}
-use Rattle.puller.specs.Taking as puller
-use Rattle.puller.specs.declared.record.Puller.{Puller}
-use Rattle.pusher.specs.Moving.{pushOf}
-use Rattle.pusher.specs.declared.record.Pusher.{Pusher}
-use Rattle.pusher.specs.declared.moving.Did.{Did}
-use Rattle.pusher.specs.declared.moving.Did.the-variants as did
 use Rattle.channel.specs.Answers.{stepRefusal}
 use Rattle.channel.specs.Putting.{putOf}
-use Rattle.channel.specs.Stepping as channel
+use Rattle.channel.specs.Many.{after}
 use Rattle.channel.specs.Promises.{WellFormed}
 use Rattle.channel.specs.declared.record.Channel.{Channel}
-use Rattle.channel.specs.declared.stepping.Answer.{Answer}
 use Rattle.channel.specs.declared.stepping.Answer.the-variants as answer
-use Rattle.channel.proofs.Formed.{unformed}
 use Rattle.channel.proofs.Refusals.{refused-one}
-use Rattle.channel.proofs.Said.{step-first}
-use Rattle.channel.proofs.Kept.{opened-formed, put-keeps, step-keeps}
+use Rattle.channel.proofs.StaysWellFormed.{opened-formed, put-keeps}
+use Rattle.channel.proofs.Many.{is-event, none-refused}
 use Rattle.trace.specs.Text.{orElse}
 use Rattle.trace.specs.Line.{lineOf}
 use Rattle.trace.specs.Lines.{stepText, endText, refusedText}
 use Rattle.trace.specs.End.{endingOf}
-use Rattle.trace.specs.Run.{fresh, traceAt, programCases, beginOf, closed, answered, orEnd, byStage}
-use Rattle.trace.specs.Printed.{stepAt, after, endingAt, over?, stepsOf, answerText, lineAfter, linesFrom, endLine, runText, printed}
+use Rattle.trace.specs.LineByLine.{fresh, traceAt, programCases, beginOf, closed, answered, orEnd, byStage}
+use Rattle.trace.specs.Printed.{lentFor, momentAfter, stepAfter, endingAt, over?, stepsOf, answerText, lineAfter, linesFrom, endLine, runText, printed}
 use Rattle.trace.specs.Contracts.{Tells}
 use Rattle.trace.specs.Promises.{Tells-in-turn, over, line}
 use Rattle.trace.specs.declared.end.End.{End}
@@ -50,42 +42,6 @@ use Rattle.trace.specs.declared.run.Stage.the-variants as stage
 use Rattle.trace.specs.declared.run.Trace.{Trace}
 use Rattle.trace.specs.declared.run.Told.{Told}
 use Rattle.trace.proofs.Room.{step-has, end-has, refused-has}
-
--- A step keeps the length of the semaphore memory.
-take-length : (level : ℕ) (p : Puller) (m : Method) (t sems : List ℕ) (d : puller.Deed) → length (puller.act level p m t sems d .memory) ≡ length sems
-unfolding puller.act puller.releaseOf
-take-length level p m t sems puller.binds = refl
-take-length level p m t sems puller.refers = refl
-take-length level p m t sems puller.logs = refl
-take-length level p m t sems puller.bindsSemaphore = refl
-take-length level p m t sems puller.offsets = refl
-take-length level p m t sems puller.acquires = refl
-take-length level p m t sems puller.releases =
-    let P : puller.Result → Type 0 = λ r. length (r .memory) ≡ length sems in
-    by-test P (λ e. refl) (λ e. by-test P (λ f. refl) (λ f. length-set sems (puller.placeOf p) (m .parameter)))
-take-length level p m t sems puller.forwards = refl
-take-length level p m t sems puller.looksAndForwards = refl
-
-module _ (c : Channel) (ws es t sems : List ℕ) where
-  finished-length : (p : Pusher) (d : Did) → length (channel.finished c p d t sems .memory) ≡ length sems
-  unfolding channel.finished puller.takeOf
-  finished-length p (did.Event e) = refl
-  finished-length p (did.Submit m) = take-length (c .setup .setting .level .number) (c .puller) m t sems (puller.deedOf (m .method))
-
-  act-length : (r : channel.Role) → length (channel.act c ws es t sems r .memory) ≡ length sems
-  unfolding channel.act
-  act-length channel.halted = refl
-  act-length channel.retries = refl
-  act-length channel.moves = finished-length (pushOf (c .setup) (c .pusher) ws es .pusher) (pushOf (c .setup) (c .pusher) ws es .did)
-
-  -- a refused one leaves it
-  step-length : length (channel.stepOf c ws es t sems .memory) ≡ length sems
-  unfolding channel.stepOf refusedOr
-  step-length = go (first (channel.stepCases c ws t sems))
-    where
-      go : (o : Option ℕ) → length (refusedOr (channel.unchanged c sems) o (channel.act c ws es t sems (channel.role c)) .memory) ≡ length sems
-      go none = act-length (channel.role c)
-      go (some n) = refl
 
 -- whether an ending is over, and then which it is
 goes-on : (e : Ending) → over? e ≡ false → e ≡ GoesOn
@@ -105,12 +61,6 @@ over-late c =
     let P : Ending → Type 0 = λ e. over? e ≡ true in
     by-test P (λ s. refl) (λ s. by-test P (λ i. refl) (λ i. by-test P (λ l. refl) (λ l. absurd (omega (arith, leb-false 65536 65536 l)))))
 
--- an answer that is not a refusal is an event
-is-event : (a : Answer) → stepRefusal a ≡ none → (e : Event) × (a ≡ answer.Event e)
-unfolding stepRefusal
-is-event (answer.Event e) h = (e, refl)
-is-event (answer.Refused r) h = let z : _≡_ {A = ℕ} 0 1 = cc in absurd (omega arith)
-
 -- How many steps the run makes: before them it goes on, and after them it is over.
 module _ (bytes : List ℕ) where
   abbrev ended? : ℕ → Bool
@@ -124,7 +74,7 @@ module _ (bytes : List ℕ) where
   last = go (lowest ended? 65536) refl
     where
       go : (o : Option ℕ) → lowest ended? 65536 ≡ o → Last (orElse o 65536)
-      go none e = (omega arith, lowest-none ended? 65536 .0 e, over-late (after bytes 65536 .channel))
+      go none e = (omega arith, lowest-none ended? 65536 .0 e, over-late (momentAfter bytes 65536 .channel))
       go (some k) e = let h = lowest-some ended? 65536 k .0 e in (omega (arith, h .0), h .2, h .1)
 
 -- a line with the lines after it, and the last
@@ -141,7 +91,6 @@ module _ (bytes : List ℕ) (narrow : (i : ℕ) → getD bytes i 0 < 2 ^ 8) (few
   fresh-formed : WellFormed fresh
   fresh-formed = opened-formed 3 0 0 false 0 0xffffffff [] (omega arith)
 
-  -- no step is refused: every channel is well-formed, and there is as much semaphore memory as at first
   begun-formed : WellFormed (beginOf (length bytes) .channel)
   unfolding beginOf refusedOr
   begun-formed = go (first (programCases (length bytes)))
@@ -150,43 +99,31 @@ module _ (bytes : List ℕ) (narrow : (i : ℕ) → getD bytes i 0 < 2 ^ 8) (few
       go none = put-keeps fresh (length bytes) fresh-formed (omega arith)
       go (some n) = fresh-formed
 
-  after-formed : (n : ℕ) → WellFormed (after bytes n .channel)
-  unfolding after
-  after-formed zero = begun-formed
-  after-formed (suc n) = step-keeps (after bytes n .channel) (wordsOf bytes) [] [] (after bytes n .semaphores) (after-formed n) (words-narrow bytes narrow) (λ i. omega arith)
-
-  after-length : (n : ℕ) → length (after bytes n .semaphores) ≡ 1024
-  unfolding after
-  after-length zero = length-replicate {A = ℕ} 1024 0
-  after-length (suc n) = step-length (after bytes n .channel) (wordsOf bytes) [] [] (after bytes n .semaphores) ∙ after-length n
-
-  none-refused : (n : ℕ) → stepRefusal (stepAt bytes (after bytes n) .stepped .answer) ≡ none
-  none-refused n =
-      let c = after bytes n .channel in
-      let sems = after bytes n .semaphores in
+  -- and no step is refused
+  none-told : (n : ℕ) → stepRefusal (stepAfter bytes n .stepped .answer) ≡ none
+  none-told n =
       let long = words-length bytes in
-      let kept = after-length n in
-      step-first c (wordsOf bytes) [] [] sems
-      ∙ fails-none (channel.stepCases c (wordsOf bytes) [] sems)
-      (ap not (unformed c (after-formed n)), (rw (le-ltb 1048576 (length (wordsOf bytes)) (omega arith), le-ltb 1048576 (length sems) (omega arith)), (refl, tt)))
+      let zeros = length-replicate {A = ℕ} 1024 0 in
+      none-refused (lentFor bytes) (beginOf (length bytes) .channel) (record { words = words-narrow bytes narrow; table = λ i. omega arith }) begun-formed
+      (record { words = omega arith; semaphores = omega arith; table = λ bad. ⊎-elim (λ e. e refl) (λ e. omega arith) bad }) n
 
   -- the moments of the run, and what is left to print at each
   abbrev steps : ℕ
   steps = stepsOf bytes
 
   abbrev at : ℕ → Trace
-  at n = traceAt stage.Running (after bytes n .channel) n
+  at n = traceAt stage.Running (momentAfter bytes n .channel) n
 
   abbrev lastLine : ℕ → List ℕ
-  lastLine n = endLine (endingAt bytes n) n (after bytes n .channel)
+  lastLine n = endLine (endingAt bytes n) n (momentAfter bytes n .channel)
 
   -- the end line
-  last-turn : (n : ℕ) (e : End) → endingAt bytes n ≡ Over e → Tells-in-turn (wordsOf bytes) 1 (at n) (after bytes n .semaphores) (lastLine n)
+  last-turn : (n : ℕ) (e : End) → endingAt bytes n ≡ Over e → Tells-in-turn (wordsOf bytes) 1 (at n) (momentAfter bytes n .semaphores) (lastLine n)
   unfolding byStage orEnd endLine
   last-turn n e h =
-      let c = after bytes n .channel in
+      let c = momentAfter bytes n .channel in
       let text = endText e n (c .pusher .get) (c .puller .reference) in
-      line-last (wordsOf bytes) (at n) (after bytes n .semaphores) (closed (at n) (lineOf text)) (after bytes n .semaphores)
+      line-last (wordsOf bytes) (at n) (momentAfter bytes n .semaphores) (closed (at n) (lineOf text)) (momentAfter bytes n .semaphores)
       (rw h (record { answer = refl; memory = refl })) (lastLine n)
       (rw h (end-has e n (c .pusher .get) (c .puller .reference) (lineOf text) refl .text)) refl
 
@@ -194,34 +131,34 @@ module _ (bytes : List ℕ) (narrow : (i : ℕ) → getD bytes i 0 < 2 ^ 8) (few
   next-turn :
       (n k : ℕ) (e : Event) (rest : List ℕ)
       → endingAt bytes n ≡ GoesOn
-      → stepAt bytes (after bytes n) .stepped .answer ≡ answer.Event e
-      → Tells-in-turn (wordsOf bytes) k (at (suc n)) (after bytes (suc n) .semaphores) rest
-      → Tells-in-turn (wordsOf bytes) (suc k) (at n) (after bytes n .semaphores) (lineAfter bytes n ++ rest)
+      → stepAfter bytes n .stepped .answer ≡ answer.Event e
+      → Tells-in-turn (wordsOf bytes) k (at (suc n)) (momentAfter bytes (suc n) .semaphores) rest
+      → Tells-in-turn (wordsOf bytes) (suc k) (at n) (momentAfter bytes n .semaphores) (lineAfter bytes n ++ rest)
   unfolding byStage orEnd answered answerText after
   next-turn n k e rest h a more =
-      let o = stepAt bytes (after bytes n) in
-      let text = stepText (n + 1) (after bytes n .channel .pusher .get) e in
-      line-more (wordsOf bytes) (at n) (after bytes n .semaphores) (record { line = lineOf text; trace = traceAt stage.Running (o .stepped .channel) (n + 1) }) (o .memory)
+      let o = stepAfter bytes n in
+      let text = stepText (n + 1) (momentAfter bytes n .channel .pusher .get) e in
+      line-more (wordsOf bytes) (at n) (momentAfter bytes n .semaphores) (record { line = lineOf text; trace = traceAt stage.Running (o .stepped .channel) (n + 1) }) (o .memory)
       (rw (h, a) (record { answer = refl; memory = refl })) (lineAfter bytes n)
-      (rw a (step-has (n + 1) (after bytes n .channel .pusher .get) e (lineOf text) refl .text)) k rest
+      (rw a (step-has (n + 1) (momentAfter bytes n .channel .pusher .get) e (lineOf text) refl .text)) k rest
       (subst (λ (m : ℕ). Tells-in-turn (wordsOf bytes) k (traceAt stage.Running (o .stepped .channel) m) (o .memory) rest) (sym (add-one n)) more)
 
   -- all that are left
-  turns : (k n : ℕ) → n + k ≡ steps → Tells-in-turn (wordsOf bytes) (suc k) (at n) (after bytes n .semaphores) (linesFrom bytes n k ++ lastLine steps)
+  turns : (k n : ℕ) → n + k ≡ steps → Tells-in-turn (wordsOf bytes) (suc k) (at n) (momentAfter bytes n .semaphores) (linesFrom bytes n k ++ lastLine steps)
   unfolding linesFrom
   turns zero n e =
       let q : n ≡ steps = omega arith in
       let x = is-over (endingAt bytes n) (subst (λ (m : ℕ). ended? bytes m ≡ true) (sym q) (last bytes .2)) in
-      subst (λ (m : ℕ). Tells-in-turn (wordsOf bytes) 1 (at n) (after bytes n .semaphores) (lastLine m)) q (last-turn n (x .0) (x .1))
+      subst (λ (m : ℕ). Tells-in-turn (wordsOf bytes) 1 (at n) (momentAfter bytes n .semaphores) (lastLine m)) q (last-turn n (x .0) (x .1))
   turns (suc k) n e =
       let h = goes-on (endingAt bytes n) (last bytes .1 n (omega arith)) in
-      let x = is-event (stepAt bytes (after bytes n) .stepped .answer) (none-refused n) in
-      subst (Tells-in-turn (wordsOf bytes) (suc (suc k)) (at n) (after bytes n .semaphores)) (sym (append-assoc (lineAfter bytes n) (linesFrom bytes (suc n) k) (lastLine steps)))
+      let x = is-event (stepAfter bytes n .stepped .answer) (none-told n) in
+      subst (Tells-in-turn (wordsOf bytes) (suc (suc k)) (at n) (momentAfter bytes n .semaphores)) (sym (append-assoc (lineAfter bytes n) (linesFrom bytes (suc n) k) (lastLine steps)))
       (next-turn n (suc k) (x .0) (linesFrom bytes (suc n) k ++ lastLine steps) h (x .1) (turns k (suc n) (omega arith)))
 
 -- The beginning of a run: one that is not refused, and one that is.
 module _ (bytes : List ℕ) where
-  begins : first (programCases (length bytes)) ≡ none → beginOf (length bytes) ≡ traceAt stage.Running (after bytes 0 .channel) 0
+  begins : first (programCases (length bytes)) ≡ none → beginOf (length bytes) ≡ traceAt stage.Running (momentAfter bytes 0 .channel) 0
   unfolding after beginOf
   begins e = accepted _ _ e ∙ ap (λ (t : Trace). traceAt stage.Running (t .channel) 0) (sym (accepted _ _ e))
 
@@ -252,4 +189,4 @@ module _ (bytes : List ℕ) where
           let few = ltb-false 32768 (length bytes) (none-fails (programCases (length bytes)) e .0) in
           let h = last bytes .0 in
           rw (begins e, accepted (λ r. refusedText (r .number)) (runText bytes) e) (suc (stepsOf bytes), omega arith, turns bytes narrow few (stepsOf bytes) 0 (omega arith))
-      go (some n) e = rw (begins-refused n e, e, refused-one (λ r. refusedText (r .number)) (runText bytes) n) (1, omega arith, refused-turn n (replicate 1024 0))
+      go (some n) e = rw (e, refused-one (λ r. refusedText (r .number)) (runText bytes) n, begins-refused n e) (1, omega arith, refused-turn n (replicate 1024 0))

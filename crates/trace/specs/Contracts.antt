@@ -10,7 +10,7 @@ use Rattle.channel.specs.declared.record.Channel.{Channel}
 use Rattle.trace.specs.Line.{lineOf}
 use Rattle.trace.specs.Lines.{stepText, endText, refusedText}
 use Rattle.trace.specs.End.{endingOf}
-use Rattle.trace.specs.Run.{fitting, beginOf, Leaving, tellOf}
+use Rattle.trace.specs.LineByLine.{fitting, beginOf, Leaving, tellOf}
 use Rattle.trace.specs.declared.line.Line.{Line}
 use Rattle.trace.specs.declared.end.End.{End}
 use Rattle.trace.specs.declared.end.Ending.{Ending}

@@ -1,10 +1,10 @@
 -- How a run ends: "`end` is error if the channel is stopped, else idle if a further step would be, else budget".
 use Prim.Native.Nat.{ℕ}
-use mathlib.Core.Bool.{Bool, true, not, _&&_}
-use lib.Dec.{eqb, leb}
+use lib.Dec.{leb}
 use Rattle.word.specs.First.{choose}
 use Rattle.pusher.specs.Record as pusher
 use Rattle.channel.specs.Stepping.{isStopped}
+use Rattle.channel.specs.Idle.{idles}
 use Rattle.channel.specs.declared.record.Channel.{Channel}
 use Rattle.trace.specs.declared.end.Cause.{Cause}
 use Rattle.trace.specs.declared.end.Cause.the-variants as cause
@@ -16,18 +16,10 @@ use Rattle.trace.specs.declared.end.Ending.the-variants.{GoesOn, Over}
 unfoldable pub causeOf : Channel → Cause
 causeOf c = choose (pusher.halts (c .pusher .error)) (cause.Pusher (c .pusher .error)) (cause.Puller (c .puller .error))
 
--- of a channel that is not stopped, "5. Idle": no acquire is active, the read address is put, and in IB mode ib_get is ib_put.
--- Then, and only then, a further step is idle (`Ended`).
-unfoldable pub idles : Channel → Bool
-idles c =
-    not (c .puller .acquire .active)
-    && eqb (c .pusher .get) (c .pusher .put)
-    && (choose (eqb (c .setup .setting .mode .number) 1) (eqb (c .pusher .ib .get) (c .pusher .ib .put)) true)
-
 -- "at most 65,536 steps"
 unfoldable pub endingOf : Channel → ℕ → Ending
 endingOf c steps =
-    choose (isStopped c) (Over (Error (causeOf c)))
+    choose (isStopped (c .pusher) (c .puller)) (Over (Error (causeOf c)))
     (choose (idles c) (Over Idle)
     (choose (leb 65536 steps) (Over Budget)
     GoesOn))

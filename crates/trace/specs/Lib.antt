@@ -3,7 +3,7 @@ pub mod Line
 pub mod Names
 pub mod End
 pub mod Lines
-pub mod Run
+pub mod LineByLine
 pub mod Printed
 pub mod Answers
 pub mod Contracts

@@ -1,8 +1,10 @@
 -- The names that the paper gives.
-use Prim.Native.Nat.{ℕ}
+use Prim.Native.Nat.{ℕ, zero, suc}
 use Prim.Native.String.{String}
 use mathlib.Core.List.{List, [], _∷_}
+use lib.Dec.{eqb}
 use lib.ListN.{getD}
+use Rattle.word.specs.First.{choose}
 use Rattle.event.specs.declared.Kind.{Kind}
 use Rattle.event.specs.Event.{number}
 use Rattle.pusher.specs.Record as pusher
@@ -12,16 +14,21 @@ use Rattle.puller.specs.declared.record.PullerError.{PullerError}
 use Rattle.trace.specs.declared.end.Cause.{Cause}
 use Rattle.trace.specs.declared.end.Cause.the-variants.{Pusher, Puller}
 
--- the name at a number's place in a list that counts from 0; a number that the list doesn't have has none
-abbrev name : List String → ℕ → String
-name names n = getD names n ""
+-- the name at a number's place in a list that counts from 1; a number that the list doesn't have has none
+abbrev pub name : List String → ℕ → String
+name names n = getD ("" ∷ names) n ""
+
+-- the same where a list is one text, with a space before each name: what stands behind so many spaces, up to the next
+unfoldable pub nameAt : List ℕ → ℕ → List ℕ
+nameAt [] n = []
+nameAt (b ∷ bs) zero = choose (eqb b 32) [] (b ∷ nameAt bs zero)
+nameAt (b ∷ bs) (suc n) = nameAt bs (choose (eqb b 32) n (suc n))
 
 -- "`kind` is command, count, bind, ref, event, dma, offset, acquire, release, wait, forward or error, in the library also entry,
--- discard, idle and stopped": the kinds' numbers count that list from 1
-abbrev kinds : List String
+-- discard, idle and stopped": that list, which the kinds' numbers count
+unfoldable pub kinds : List String
 kinds =
-    ""
-    ∷ "command"
+    "command"
     ∷ "count"
     ∷ "bind"
     ∷ "ref"
@@ -43,12 +50,12 @@ unfoldable pub kindName : Kind → String
 kindName k = name kinds (number k)
 
 -- "Pusher errors: 1 CALL, 2 NON_CACHE, 3 RETURN, 4 RESERVED_CMD, 5 IB, 6 PROTECTION"
-abbrev pusherErrors : List String
-pusherErrors = "" ∷ "CALL" ∷ "NON_CACHE" ∷ "RETURN" ∷ "RESERVED_CMD" ∷ "IB" ∷ "PROTECTION" ∷ []
+unfoldable pub pusherErrors : List String
+pusherErrors = "CALL" ∷ "NON_CACHE" ∷ "RETURN" ∷ "RESERVED_CMD" ∷ "IB" ∷ "PROTECTION" ∷ []
 
 -- the puller's: "CACHE_ERROR NO_HASH", "EMPTY_SUBCHANNEL", "SEMAPHORE 1" to 4, "as NON_CACHE or SEMAPHORE_2"
-abbrev pullerErrors : List String
-pullerErrors = "" ∷ "NO_HASH" ∷ "EMPTY_SUBCHANNEL" ∷ "SEMAPHORE_1" ∷ "SEMAPHORE_2" ∷ "SEMAPHORE_3" ∷ "SEMAPHORE_4" ∷ []
+unfoldable pub pullerErrors : List String
+pullerErrors = "NO_HASH" ∷ "EMPTY_SUBCHANNEL" ∷ "SEMAPHORE_1" ∷ "SEMAPHORE_2" ∷ "SEMAPHORE_3" ∷ "SEMAPHORE_4" ∷ []
 
 unfoldable pub pusherName : PusherError → String
 pusherName e = name pusherErrors (pusher.number e)
@@ -61,10 +68,9 @@ causeName (Pusher e) = pusherName e
 causeName (Puller e) = pullerName e
 
 -- the table of refusal numbers
-abbrev refusals : List String
+unfoldable pub refusals : List String
 refusals =
-    ""
-    ∷ "LEVEL"
+    "LEVEL"
     ∷ "MODE"
     ∷ "ORDER"
     ∷ "SLI"

@@ -7,32 +7,32 @@ use Rattle.word.specs.First.{first}
 use Rattle.word.specs.Lowest.{lowest}
 use Rattle.word.specs.Lent.{wordsOf}
 use Rattle.word.specs.Setting.{refusedOr}
-use Rattle.channel.specs.Stepping.{Outcome, stepOf}
+use Rattle.channel.specs.Loan.{Loan}
+use Rattle.channel.specs.Many.{Moment, stepAt, after}
+use Rattle.channel.specs.Stepping.{Outcome}
 use Rattle.channel.specs.declared.record.Channel.{Channel}
 use Rattle.channel.specs.declared.stepping.Answer.{Answer}
 use Rattle.channel.specs.declared.stepping.Answer.the-variants as answer
 use Rattle.trace.specs.Text.{orElse}
 use Rattle.trace.specs.End.{endingOf}
 use Rattle.trace.specs.Lines.{stepText, endText, refusedText}
-use Rattle.trace.specs.Run.{programCases, beginOf}
+use Rattle.trace.specs.LineByLine.{programCases, beginOf, lending}
 use Rattle.trace.specs.declared.end.Ending.{Ending}
 use Rattle.trace.specs.declared.end.Ending.the-variants.{GoesOn, Over}
 
--- The channel and the semaphore words at a moment of the run.
-pub record Moment : Type 0 where
-  pub channel : Channel
-  pub semaphores : List ℕ
+-- what the run is lent: the words that the bytes are, and at first "1,024 zero semaphore words"
+abbrev pub lentFor : List ℕ → Loan
+lentFor bytes = lending (wordsOf bytes) (replicate 1024 0)
 
-abbrev pub stepAt : List ℕ → Moment → Outcome
-stepAt bytes m = stepOf (m .channel) (wordsOf bytes) [] [] (m .semaphores)
+-- after n steps, and the step after them
+abbrev pub momentAfter : List ℕ → ℕ → Moment
+momentAfter bytes n = after (lentFor bytes) n (beginOf (length bytes) .channel)
 
--- after n steps; before the first there are "1,024 zero semaphore words"
-unfoldable pub after : List ℕ → ℕ → Moment
-after bytes zero = record { channel = beginOf (length bytes) .channel; semaphores = replicate 1024 0 }
-after bytes (suc n) = let o = stepAt bytes (after bytes n) in record { channel = o .stepped .channel; semaphores = o .memory }
+abbrev pub stepAfter : List ℕ → ℕ → Outcome
+stepAfter bytes n = stepAt (lentFor bytes) (momentAfter bytes n)
 
 abbrev pub endingAt : List ℕ → ℕ → Ending
-endingAt bytes n = endingOf (after bytes n .channel) n
+endingAt bytes n = endingOf (momentAfter bytes n .channel) n
 
 unfoldable pub over? : Ending → Bool
 over? GoesOn = false
@@ -48,7 +48,7 @@ answerText step get (answer.Event e) = stepText step get e
 answerText step get (answer.Refused r) = refusedText (r .number)
 
 abbrev pub lineAfter : List ℕ → ℕ → List ℕ
-lineAfter bytes n = answerText (n + 1) (after bytes n .channel .pusher .get) (stepAt bytes (after bytes n) .stepped .answer)
+lineAfter bytes n = answerText (n + 1) (momentAfter bytes n .channel .pusher .get) (stepAfter bytes n .stepped .answer)
 
 -- the lines of k steps after the first n
 unfoldable pub linesFrom : List ℕ → ℕ → ℕ → List ℕ
@@ -61,7 +61,7 @@ endLine GoesOn n c = []
 endLine (Over e) n c = endText e n (c .pusher .get) (c .puller .reference)
 
 unfoldable pub runText : List ℕ → List ℕ
-runText bytes = linesFrom bytes 0 (stepsOf bytes) ++ endLine (endingAt bytes (stepsOf bytes)) (stepsOf bytes) (after bytes (stepsOf bytes) .channel)
+runText bytes = linesFrom bytes 0 (stepsOf bytes) ++ endLine (endingAt bytes (stepsOf bytes)) (stepsOf bytes) (momentAfter bytes (stepsOf bytes) .channel)
 
 -- "Over 32,768 bytes prints only refused=SIZE (tried first), a part word refused=LENGTH."
 unfoldable pub printed : List ℕ → List ℕ

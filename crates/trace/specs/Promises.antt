@@ -5,7 +5,7 @@ use mathlib.Core.List.{List, [], _∷_, _++_}
 use mathlib.Core.Logic.{_↔_}
 use mathlib.Core.Option.{none, some}
 use lib.ListN.{length, getD, take, drop, replicate}
-use Rattle.word.specs.First.{Plain, _if_, FirstIs}
+use Rattle.word.specs.First.{PlainCase, _if_, FirstIs}
 use Rattle.word.specs.Lent.{wordsOf}
 use Rattle.word.specs.Setting.{SIZE, LENGTH}
 use Rattle.word.specs.declared.setting.Refusal.{Refusal}
@@ -15,6 +15,7 @@ use Rattle.event.specs.declared.Kind.the-variants as kind
 use Rattle.pusher.specs.Record as pusher
 use Rattle.puller.specs.Record as puller
 use Rattle.channel.specs.Answers.{stepRefusal}
+use Rattle.channel.specs.Loan.{Loan}
 use Rattle.channel.specs.Contracts.{StepsTo}
 use Rattle.channel.specs.declared.record.Channel.{Channel}
 use Rattle.channel.specs.declared.stepping.Answer.the-variants as answer
@@ -35,7 +36,7 @@ use Rattle.trace.specs.declared.run.Trace.{Trace}
 use Rattle.trace.specs.declared.run.Told.{Told}
 
 -- Promise 1. "Over 32,768 bytes prints only refused=SIZE (tried first), a part word refused=LENGTH."
-abbrev pub programPlain : ℕ → List Plain
+abbrev pub programPlain : ℕ → List PlainCase
 programPlain bytes = SIZE if (32768 < bytes) ∷ LENGTH if (bytes % 4 ≡ 0 → ⊥) ∷ []
 
 pub record Refused : Type 0 where
@@ -77,17 +78,17 @@ pub record Ended : Type 0 where
       → a ≡ ending.Over (Error (cause.Puller (c .puller .error)))
   -- 2 is idle, 3 budget, and 0 goes on
   pub idle :
-      (c : Channel) (n : ℕ) (a : Ending) (ws es t sems exit : List ℕ) (r : Stepped)
+      (c : Channel) (n : ℕ) (a : Ending) (l : Loan) (exit : List ℕ) (r : Stepped)
       → Ends c n a
-      → StepsTo c ws es t sems r exit
+      → StepsTo c l r exit
       → stepRefusal (r .answer) ≡ none
       → endingNumber a ≡ 2 ↔ (r .answer ≡ answer.Event (event.Plain kind.Idle))
   pub budget :
-      (c : Channel) (n : ℕ) (a : Ending) (ws es t sems exit : List ℕ) (r : Stepped)
+      (c : Channel) (n : ℕ) (a : Ending) (l : Loan) (exit : List ℕ) (r : Stepped)
       → Ends c n a
       → pusher.number (c .pusher .error) ≡ 0
       → puller.number (c .puller .error) ≡ 0
-      → StepsTo c ws es t sems r exit
+      → StepsTo c l r exit
       → stepRefusal (r .answer) ≡ none
       → (r .answer ≡ answer.Event (event.Plain kind.Idle) → ⊥)
       → (endingNumber a ≡ 3 ↔ 65536 ≤ n) × (endingNumber a ≡ 0 ↔ n < 65536)

@@ -1,11 +1,8 @@
 // How a run ends.
-ghost use mathlib.Core.Path.{_≡_};
-ghost use Rattle.trace.specs.End.{idles};
 ghost use Rattle.trace.specs.Contracts.{Ends};
 use channel::Channel;
 use puller::PullerError;
 use pusher::PusherError;
-use word::Mode;
 
 // The most steps of a run.
 pub const BUDGET: u32 = 65_536;
@@ -49,27 +46,11 @@ pub fn ended(channel: Channel, steps: u32) -> Ending
             },
         };
     }
-    if idle(channel) {
+    if channel.idle() {
         return Ending::Over { end: End::Idle };
     }
     if BUDGET <= steps {
         return Ending::Over { end: End::Budget };
     }
     Ending::GoesOn
-}
-
-// Whether a step of a channel that is not stopped would find nothing to do.
-fn idle(channel: Channel) -> bool
-    ensures { λ r. ⌜ r ≡ idles channel ⌝ }
-{
-    if channel.puller.acquire.active {
-        return false;
-    }
-    if channel.pusher.get != channel.pusher.put {
-        return false;
-    }
-    if channel.setup.setting.mode.number == Mode::IB.number {
-        return channel.pusher.ib.get == channel.pusher.ib.put;
-    }
-    true
 }

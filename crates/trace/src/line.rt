@@ -1,7 +1,8 @@
 // A line of text, and how it grows.
 ghost use mathlib.Core.Path.{_≡_};
-ghost use mathlib.Core.List.{[]};
+ghost use mathlib.Core.List.{[], _++_};
 ghost use Rattle.trace.specs.Text.{decimal};
+ghost use Rattle.trace.specs.Names.{nameAt};
 ghost use Rattle.trace.specs.Line.{lineOf, pushed, added};
 
 // The most bytes of a line's text.
@@ -48,10 +49,32 @@ pub(crate) fn say(line: Line, text: &[u8]) -> Line
     line
 }
 
-pub(crate) fn tell(line: Line, number: u64) -> Line
-    ensures { λ r. ⌜ r ≡ added line (decimal number) ⌝ }
+// A field: its label, and its number.
+pub(crate) fn tell(line: Line, label: &[u8], number: u64) -> Line
+    ensures { λ r. ⌜ r ≡ added line (now (label .entry) ++ decimal number) ⌝ }
 {
     let mut digits = [0u8; 20];
     let count = io::decimal(number, &mut digits);
-    say(line, &digits[..count])
+    say(say(line, label), &digits[..count])
+}
+
+// The name that a number has in a list, which counts from 1 and has a space before each name. A
+// number that the list doesn't have has none.
+pub(crate) fn name_in(line: Line, names: &[u8], number: u32) -> Line
+    ensures { λ r. ⌜ r ≡ added line (nameAt (now (names .entry)) number) ⌝ }
+{
+    let mut line = line;
+    let mut left = number;
+    for i in 0..names.len() {
+        let byte = names[i];
+        if byte == b' ' {
+            if left == 0 {
+                return line;
+            }
+            left -= 1;
+        } else if left == 0 {
+            line = push(line, byte);
+        }
+    }
+    line
 }

@@ -1,9 +1,8 @@
 // The run of the program, line by line.
 ghost use mathlib.Core.Path.{_≡_};
-ghost use mathlib.Core.List.{[]};
 ghost use Prim.Native.Nat.{_<_, min};
 ghost use Rattle.channel.specs.Stepping.{stepOf};
-ghost use Rattle.trace.specs.Run.{closed, running, steppedOn};
+ghost use Rattle.trace.specs.LineByLine.{lending, closed, running, steppedOn};
 ghost use Rattle.trace.specs.Contracts.{Loads, Begins, Leaves, Tells};
 use crate::end::Ending;
 use crate::end::ended;
@@ -137,7 +136,7 @@ fn run(trace: Trace, words: &[u32], semaphores: &mut [u32]) -> Told
 
 fn step(trace: Trace, words: &[u32], semaphores: &mut [u32]) -> Told
     requires { ⌜ trace .steps < 65536 ⌝ }
-    ensures { λ r. ⌜ Leaves (steppedOn trace (stepOf (trace .channel) (now (words .entry)) [] [] (now (semaphores .entry)))) r (now (semaphores .exit)) ⌝ }
+    ensures { λ r. ⌜ Leaves (steppedOn trace (stepOf (trace .channel) (lending (now (words .entry)) (now (semaphores .entry))))) r (now (semaphores .exit)) ⌝ }
 {
     let channel = trace.channel;
     let get = channel.pusher.get;

@@ -6,7 +6,7 @@ use mathlib.Core.List.{List, [], _∷_, _++_}
 use mathlib.Core.Logic.{inl, inr, ⊎-elim, _↔_}
 use mathlib.Core.Option.{Option, none, some}
 use native.Mathlib.Omega.{arith}
-use Rattle.word.specs.First.{choose, Case, Plain, first, FirstIs}
+use Rattle.word.specs.First.{choose, Case, PlainCase, first, FirstIs}
 
 -- to show something of a choice, show it of both ways, each with the test's value
 pub by-test : {A : Type 0} (P : A → Type 0) {t : Bool} {x y : A} → (t ≡ true → P x) → (t ≡ false → P y) → P (choose t x y)
@@ -76,14 +76,14 @@ fails-none [] f = refl
 fails-none (c ∷ cs) f = rw (f .0) (fails-none cs (f .1))
 
 -- tests and plain conditions that say the same, one by one
-abbrev pub Agree : List Case → List Plain → Type 0
+abbrev pub Agree : List Case → List PlainCase → Type 0
 Agree [] [] = Unit {0}
 Agree [] (p ∷ ps) = ⊥
 Agree (c ∷ cs) [] = ⊥
 Agree (c ∷ cs) (p ∷ ps) = (c .number ≡ p .number) × (c .holds ≡ true ↔ p .holds) × Agree cs ps
 
 -- then the first case that holds is the first plain condition that does
-pub first-is : (cs : List Case) (ps : List Plain) → Agree cs ps → (n : ℕ) → first cs ≡ some n ↔ FirstIs ps n
+pub first-is : (cs : List Case) (ps : List PlainCase) → Agree cs ps → (n : ℕ) → first cs ≡ some n ↔ FirstIs ps n
 unfolding first choose
 first-is [] [] a n = (λ e. let z : _≡_ {A = ℕ} 0 1 = cc in omega arith, λ f. absurd f)
 first-is [] (p ∷ ps) a n = absurd a

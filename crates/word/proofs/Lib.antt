@@ -6,6 +6,7 @@ pub mod Bytes
 pub mod Settings
 pub mod Parts
 pub mod Forms
+pub mod Usable
 pub mod Decode
 pub mod RoundTrip
 pub mod Methods

@@ -1,5 +1,5 @@
--- What the table of special methods says of a method, by the range that it is in. Assumes nothing.
-use Prim.Native.Nat.{ℕ, _≤_, _<_}
+-- What the table of special methods says of a method, by the range that its number is in. Assumes nothing.
+use Prim.Native.Nat.{ℕ, _*_, _≤_, _<_}
 use mathlib.Core.Path.{_≡_, refl}
 use mathlib.Core.Bool.{Bool, true, false, _&&_, _||_, and-false, or-false}
 use mathlib.Core.Logic.{_⊎_, inl, inr, ⊎-elim, _↔_}
@@ -23,54 +23,67 @@ beside m k ne = go (ltb m k) refl
     go true e = inl (ltb-true m k e)
     go false e = inr (omega (arith, ltb-false m k e))
 
-module _ (level m : ℕ) where
-  pub ordinary : 0x100 ≤ m → true ≡ presentOf level m
+module _ (level n : ℕ) where
+  pub ordinary : 0x40 ≤ n → true ≡ presentOf level n
   unfolding presentOf
-  ordinary h = rw (le-leb 0x100 m h)
+  ordinary h = rw (le-leb 0x100 (4 * n) (omega arith))
 
-  pub bind : m ≡ 0x00 → true ≡ presentOf level m
+  pub bind : n ≡ 0x00 → true ≡ presentOf level n
   unfolding presentOf listed specials
   bind e = simp (e, leb·zero)
 
-  pub ref : m ≡ 0x50 → leb 1 level ≡ presentOf level m
+  pub ref : n ≡ 0x14 → leb 1 level ≡ presentOf level n
   unfolding presentOf listed specials
   ref e = simp (e, or-false)
 
-  pub yield : m ≡ 0x80 → leb 3 level ≡ presentOf level m
+  pub yield : n ≡ 0x20 → leb 3 level ≡ presentOf level n
   unfolding presentOf listed specials
   yield e = simp (e, or-false)
 
-  module _ (zero : 0 < m) where
-    pub timed : 0x10 ≤ m → m ≤ 0x24 → leb 5 level ≡ presentOf level m
+  module _ (zero : 0 < n) where
+    abbrev m : ℕ
+    m = 4 * n
+
+    pub timed : 0x04 ≤ n → n ≤ 0x09 → leb 5 level ≡ presentOf level n
     unfolding presentOf listed specials
     timed h k =
         let small : m < 0x50 = omega arith in
-        simp (lt-leb 0x100 m (omega arith), outside 0x00 0x00 m (inr zero), inside 0x10 0x24 m h k, outside 0x50 0x50 m (inl small), outside 0x60 0x6c m (inl (omega arith)), outside 0x80 0x80 m (inl (omega arith)), or-false)
+        simp (lt-leb 0x100 m (omega arith), outside 0x00 0x00 m (inr (omega arith)), inside 0x10 0x24 m (omega arith) (omega arith), outside 0x50 0x50 m (inl small), outside 0x60 0x6c m (inl (omega arith)), outside 0x80 0x80 m (inl (omega arith)), or-false)
 
-    pub semaphore : 0x60 ≤ m → m ≤ 0x6c → leb 2 level ≡ presentOf level m
+    pub semaphore : 0x18 ≤ n → n ≤ 0x1b → leb 2 level ≡ presentOf level n
     unfolding presentOf listed specials
     semaphore h k =
         let large : 0x50 < m = omega arith in
-        simp (lt-leb 0x100 m (omega arith), outside 0x00 0x00 m (inr zero), outside 0x10 0x24 m (inr (omega arith)), outside 0x50 0x50 m (inr large), inside 0x60 0x6c m h k, outside 0x80 0x80 m (inl (omega arith)), or-false)
+        simp (lt-leb 0x100 m (omega arith), outside 0x00 0x00 m (inr (omega arith)), outside 0x10 0x24 m (inr (omega arith)), outside 0x50 0x50 m (inr large), inside 0x60 0x6c m (omega arith) (omega arith), outside 0x80 0x80 m (inl (omega arith)), or-false)
 
-    pub absent : m < 0x100 → (m < 0x10) ⊎ (0x24 < m) → (m < 0x50) ⊎ (0x50 < m) → (m < 0x60) ⊎ (0x6c < m) → (m < 0x80) ⊎ (0x80 < m) → false ≡ presentOf level m
+    -- a method beside a range is so by its number too
+    beyond : (a b : ℕ) → (n < a) ⊎ (b < n) → (m < 4 * a) ⊎ (4 * b < m)
+    beyond a b s = ⊎-elim (λ h. inl (omega arith)) (λ h. inr (omega arith)) s
+
+    pub absent : n < 0x40 → (n < 0x04) ⊎ (0x09 < n) → (n < 0x14) ⊎ (0x14 < n) → (n < 0x18) ⊎ (0x1b < n) → (n < 0x20) ⊎ (0x20 < n) → false ≡ presentOf level n
     unfolding presentOf listed specials
-    absent h a b d e = simp (lt-leb 0x100 m h, outside 0x00 0x00 m (inr zero), outside 0x10 0x24 m a, outside 0x50 0x50 m b, outside 0x60 0x6c m d, outside 0x80 0x80 m e)
+    absent h a b d e =
+        simp (lt-leb 0x100 m (omega arith), outside 0x00 0x00 m (inr (omega arith)), outside 0x10 0x24 m (beyond 0x04 0x09 a), outside 0x50 0x50 m (beyond 0x14 0x14 b), outside 0x60 0x6c m (beyond 0x18 0x1b d), outside 0x80 0x80 m (beyond 0x20 0x20 e))
 
--- the table in plain terms: a row, a row of one method, and the last row
-row : (from to level m l : ℕ) → (leb from m && leb m to && leb level l) ≡ true ↔ ((from ≤ m) × (m ≤ to) × (level ≤ l))
-row from to level m l =
-    let p = and-plain (leb from m && leb m to) (leb level l) (and-plain (leb from m) (leb m to) (most-plain from m) (most-plain m to)) (most-plain level l) in
+-- the table in plain terms, by the method's number n: from 0x100 up, a row, a row of one method, and the last row
+above : (a n : ℕ) → leb (4 * a) (4 * n) ≡ true ↔ a ≤ n
+above a n =
+    let p = most-plain (4 * a) (4 * n) in
+    (λ e. let x = p .0 e in omega arith, λ x. p .1 (omega arith))
+
+row : (from to level n l : ℕ) → (leb (4 * from) (4 * n) && leb (4 * n) (4 * to) && leb level l) ≡ true ↔ ((from ≤ n) × (n ≤ to) × (level ≤ l))
+row from to level n l =
+    let p = and-plain (leb (4 * from) (4 * n) && leb (4 * n) (4 * to)) (leb level l) (and-plain (leb (4 * from) (4 * n)) (leb (4 * n) (4 * to)) (above from n) (above n to)) (most-plain level l) in
     (λ e. let x = p .0 e in (x .0 .0, x .0 .1, x .1), λ x. p .1 ((x .0, x .1), x .2))
 
-single : (k level m l : ℕ) → (leb k m && leb m k && leb level l) ≡ true ↔ ((m ≡ k) × (level ≤ l))
-single k level m l =
-    let p = row k k level m l in
+single : (k level n l : ℕ) → (leb (4 * k) (4 * n) && leb (4 * n) (4 * k) && leb level l) ≡ true ↔ ((n ≡ k) × (level ≤ l))
+single k level n l =
+    let p = row k k level n l in
     (λ e. let x = p .0 e in (omega arith, x .2), λ x. p .1 (omega arith, omega arith, x .1))
 
-always : (m l : ℕ) → (leb 0 m && leb m 0 && leb 0 l) ≡ true ↔ (m ≡ 0)
-always m l =
-    let p = single 0 0 m l in
+always : (n l : ℕ) → (leb 0 (4 * n) && leb (4 * n) 0 && leb 0 l) ≡ true ↔ (n ≡ 0)
+always n l =
+    let p = single 0 0 n l in
     (λ e. p .0 e .0, λ x. p .1 (x, omega arith))
 
 last : (a : Bool) {P : Type 0} → a ≡ true ↔ P → (a || false) ≡ true ↔ P
@@ -78,19 +91,19 @@ last true p = p
 last false p = p
 
 pub specials-plain :
-    (m l : ℕ)
-    → presentOf l m ≡ true
-    ↔ ((0x100 ≤ m)
-    ⊎ (m ≡ 0x00)
-    ⊎ ((0x10 ≤ m) × (m ≤ 0x24) × (5 ≤ l))
-    ⊎ ((m ≡ 0x50) × (1 ≤ l))
-    ⊎ ((0x60 ≤ m) × (m ≤ 0x6c) × (2 ≤ l))
-    ⊎ ((m ≡ 0x80) × (3 ≤ l)))
+    (n l : ℕ)
+    → presentOf l n ≡ true
+    ↔ ((0x40 ≤ n)
+    ⊎ (n ≡ 0x00)
+    ⊎ ((0x04 ≤ n) × (n ≤ 0x09) × (5 ≤ l))
+    ⊎ ((n ≡ 0x14) × (1 ≤ l))
+    ⊎ ((0x18 ≤ n) × (n ≤ 0x1b) × (2 ≤ l))
+    ⊎ ((n ≡ 0x20) × (3 ≤ l)))
 unfolding presentOf listed specials
-specials-plain m l =
-    or-plain _ _ (most-plain 0x100 m)
-    (or-plain _ _ (always m l)
-    (or-plain _ _ (row 0x10 0x24 5 m l)
-    (or-plain _ _ (single 0x50 1 m l)
-    (or-plain _ _ (row 0x60 0x6c 2 m l)
-    (last _ (single 0x80 3 m l))))))
+specials-plain n l =
+    or-plain _ _ (above 0x40 n)
+    (or-plain _ _ (always n l)
+    (or-plain _ _ (row 0x04 0x09 5 n l)
+    (or-plain _ _ (single 0x14 1 n l)
+    (or-plain _ _ (row 0x18 0x1b 2 n l)
+    (last _ (single 0x20 3 n l))))))

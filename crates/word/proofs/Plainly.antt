@@ -8,44 +8,45 @@ use native.Mathlib.Omega.{arith}
 use lib.Dec.{eqb, leb, ltb}
 use lib.ListN.{length}
 use borrow.Author.Tests.{lt-ltb, le-leb, eq-eqb, ltb-true, leb-true, eqb-true}
-use Rattle.word.specs.First.{choose, Case, Plain}
+use Rattle.word.specs.First.{choose, Case, PlainCase}
 use Rattle.word.specs.Setting.{settingCases, sizeCases}
-use Rattle.word.specs.Parts.{Part, is, holds, address, spare, fit}
+use Rattle.word.specs.Parts.{Part, is, carries, address, spare, numbersFit}
 use Rattle.word.specs.Form.{Where, either, only, nowhere, inMode, Form, usable, increasing, nonIncreasing, sliConditional, returning, long, oldJump, jump, call, everythingElse, forms}
 use Rattle.word.specs.Reading.{number, form, values}
-use Rattle.word.specs.Writing.{nextWord, wordsOf, writeCases}
+use Rattle.word.specs.Writing.{nextWord, ownWords, writeCases}
 use Rattle.word.specs.Promises.{Within, Available, size, settingPlain, sizePlain, writePlain}
 use Rattle.word.specs.declared.setting.Setting.{Setting}
 use Rattle.word.specs.declared.reading.Reading.{Reading}
 use Rattle.word.specs.declared.reading.Reading.the-variants.{Increasing, NonIncreasing, Sli, Return, Long, OldJump, Jump, Call, Reserved, Refused}
+use Rattle.word.proofs.Usable.{usable-is}
 use Rattle.word.proofs.First.{Agree}
 use Rattle.word.proofs.Tests.{both, not-plain, or-plain, and-plain, less-plain, equal-plain}
 
--- numbers that fit parts, in plain terms
+-- numbers that numbersFit parts, in plain terms
 abbrev Fit : List Part → List ℕ → Type 0
 Fit [] ns = Unit {0}
 Fit (is hi lo v ∷ ps) ns = Fit ps ns
-Fit (holds hi lo ∷ ps) [] = ⊥
-Fit (holds hi lo ∷ ps) (n ∷ ns) = (n < 2 ^ (hi + 1 - lo)) × Fit ps ns
+Fit (carries hi lo ∷ ps) [] = ⊥
+Fit (carries hi lo ∷ ps) (n ∷ ns) = (n < 2 ^ (hi + 1 - lo)) × Fit ps ns
 Fit (address hi lo ∷ ps) [] = ⊥
 Fit (address hi lo ∷ ps) (n ∷ ns) = (n < 2 ^ (hi + 1)) × (n % 2 ^ lo ≡ 0) × Fit ps ns
 Fit (spare hi lo ∷ ps) ns = Fit ps ns
 
-fit-plain : (ps : List Part) (ns : List ℕ) → fit ps ns ≡ true ↔ Fit ps ns
-unfolding fit
+fit-plain : (ps : List Part) (ns : List ℕ) → numbersFit ps ns ≡ true ↔ Fit ps ns
+unfolding numbersFit
 fit-plain [] ns = (λ e. tt, λ f. refl)
 fit-plain (is hi lo v ∷ ps) ns = fit-plain ps ns
-fit-plain (holds hi lo ∷ ps) [] = (λ e. false≢true e, λ f. absurd f)
-fit-plain (holds hi lo ∷ ps) (n ∷ ns) =
+fit-plain (carries hi lo ∷ ps) [] = (λ e. false≢true e, λ f. absurd f)
+fit-plain (carries hi lo ∷ ps) (n ∷ ns) =
     let ih = fit-plain ps ns in (
-      λ e. let y = both (ltb n (2 ^ (hi + 1 - lo))) (fit ps ns) e in (ltb-true _ _ (y .0), ih .0 (y .1)),
+      λ e. let y = both (ltb n (2 ^ (hi + 1 - lo))) (numbersFit ps ns) e in (ltb-true _ _ (y .0), ih .0 (y .1)),
       λ f. rw (lt-ltb n (2 ^ (hi + 1 - lo)) (f .0)) (ih .1 (f .1)),
     )
 fit-plain (address hi lo ∷ ps) [] = (λ e. false≢true e, λ f. absurd f)
 fit-plain (address hi lo ∷ ps) (n ∷ ns) =
     let ih = fit-plain ps ns in (
       λ e.
-          let y = both (ltb n (2 ^ (hi + 1)) && eqb (n % 2 ^ lo) 0) (fit ps ns) e in
+          let y = both (ltb n (2 ^ (hi + 1)) && eqb (n % 2 ^ lo) 0) (numbersFit ps ns) e in
           let z = both (ltb n (2 ^ (hi + 1))) (eqb (n % 2 ^ lo) 0) (y .0) in
           (ltb-true _ _ (z .0), eqb-true _ _ (z .1), ih .0 (y .1)),
       λ f. rw (lt-ltb n (2 ^ (hi + 1)) (f .0), eq-eqb (n % 2 ^ lo) 0 (f .1)) (ih .1 (f .2)),
@@ -66,7 +67,7 @@ within-plain (Call t) = (λ f. (f .0, f .1), λ w. (w .0, w .1, tt))
 within-plain Reserved = (λ f. tt, λ w. tt)
 within-plain (Refused r) = (λ f. tt, λ w. tt)
 
-pub field-plain : (r : Reading) → fit (form r .word ++ form r .next) (values r) ≡ true ↔ Within r
+pub field-plain : (r : Reading) → numbersFit (form r .word ++ form r .next) (values r) ≡ true ↔ Within r
 field-plain r =
     let p = fit-plain (form r .word ++ form r .next) (values r) in
     let q = within-plain r in
@@ -93,8 +94,7 @@ enabled-plain true on = (λ e. e, λ p. p)
 enabled-plain false on = (λ e. tt, λ p. refl)
 
 usable-plain : (s : Setting) (f : Form) → usable s f ≡ true ↔ (f .level ≤ s .level .number) × InMode (f .mode) (s .mode .number) × Enabled (f .sli) (s .sli)
-unfolding usable
-usable-plain s f = (
+usable-plain s f = rw (usable-is s f) (
   λ e.
       let y = both (leb (f .level) (s .level .number) && inMode (f .mode) (s .mode .number)) (not (f .sli) || s .sli) e in
       let z = both (leb (f .level) (s .level .number)) (inMode (f .mode) (s .mode .number)) (y .0) in
@@ -123,8 +123,8 @@ form-plain s r =
     (λ e. q .0 (p .0 e), λ a. p .1 (q .1 a))
 
 -- ROOM's test
-pub size-is : (r : Reading) → length (wordsOf r) ≡ size r
-unfolding choose wordsOf nextWord form number forms increasing nonIncreasing sliConditional returning long oldJump jump call everythingElse
+pub size-is : (r : Reading) → length (ownWords r) ≡ size r
+unfolding choose ownWords nextWord form number forms increasing nonIncreasing sliConditional returning long oldJump jump call everythingElse
 size-is (Increasing c s m) = refl
 size-is (NonIncreasing c s m) = refl
 size-is (Sli k) = refl
@@ -137,7 +137,7 @@ size-is Reserved = refl
 size-is (Refused r) = refl
 
 -- LEVEL, MODE and SLI, with what comes after them
-pub setting-agree : (s : Setting) (more : List Case) (plain : List Plain) → Agree more plain → Agree (settingCases s ++ more) (settingPlain s ++ plain)
+pub setting-agree : (s : Setting) (more : List Case) (plain : List PlainCase) → Agree more plain → Agree (settingCases s ++ more) (settingPlain s ++ plain)
 setting-agree s more plain rest =
     let l = s .level .number in
     let m = s .mode .number in (
@@ -156,6 +156,6 @@ size-agree ws = (refl, less-plain 1048576 (length ws), tt)
 pub write-agree : (s : Setting) (r : Reading) (out : List ℕ) → Agree (writeCases s r (length out)) (writePlain s r out)
 write-agree s r out = (
   refl,
-  not-plain (fit (form r .word ++ form r .next) (values r)) (field-plain r),
+  not-plain (numbersFit (form r .word ++ form r .next) (values r)) (field-plain r),
   (refl, not-plain (usable s (form r)) (form-plain s r), (refl, rw size-is (less-plain (length out) (size r)), tt)),
 )

@@ -10,12 +10,13 @@ use lib.Dec.{ltb}
 use lib.ListN.{length, getD, drop}
 use lib.Seq.{sets, sets-eq, length-sets, drop-at}
 use borrow.Author.Tests.{lt-ltb, le-ltb, not-false, ltb-false}
+use Rattle.word.specs.Lowest.{found?}
 use Rattle.word.specs.First.{choose, first}
 use Rattle.word.specs.Setting.{refusedOr, checkOf, settingCases, sizeCases}
-use Rattle.word.specs.Parts.{Part, fits, numbersIn, fit, wordWith}
-use Rattle.word.specs.Form.{Form, usable, inMode, increasing, nonIncreasing, sliConditional, returning, long, oldJump, jump, call, everythingElse, forms, formIn, formOf}
+use Rattle.word.specs.Parts.{Part, hasBits, numbersIn, numbersFit, wordWith}
+use Rattle.word.specs.Form.{Form, nowhere?, inMode, whyNot, usable, increasing, nonIncreasing, sliConditional, returning, long, oldJump, jump, call, everythingElse, forms, formIn, formOf}
 use Rattle.word.specs.Reading.{number, form, values, commandIn, readingOf, readOf, readAtOf}
-use Rattle.word.specs.Writing.{nextWord, wordsOf, writeCases, writeOf, outAfter}
+use Rattle.word.specs.Writing.{nextWord, ownWords, writeCases, writeOf, outAfter}
 use Rattle.word.specs.Answers.{checkRefusal, readingRefusal, placeRefusal, writtenRefusal, placeValues, writtenValues}
 use Rattle.word.specs.Contracts.{Writes}
 use Rattle.word.specs.Numbers.{Numbers}
@@ -52,7 +53,7 @@ not-refused (Refusing r) h = absurd (omega arith)
 
 -- to show something of a reading, show it of each command that a form of the table reads, and of 'reserved'
 by-reading : (P : Reading → Type 0) (s : Setting) (w n : ℕ)
-    → ((f : Form) → In f forms → fits (f .word) w ≡ true → P (commandIn f w n))
+    → ((f : Form) → In f forms → hasBits (f .word) w ≡ true → P (commandIn f w n))
     → P Reserved
     → P (readingOf s w n)
 unfolding readingOf commandIn everythingElse
@@ -99,7 +100,7 @@ one =
     }
 
 pub numbers : Numbers
-unfolding readOf refusedOr first choose readingOf commandIn formIn forms fits numbersIn usable inMode increasing nonIncreasing sliConditional returning long oldJump jump call everythingElse
+unfolding readOf refusedOr first choose found? readingOf commandIn formIn forms hasBits numbersIn usable whyNot nowhere? inMode increasing nonIncreasing sliConditional returning long oldJump jump call everythingElse
 numbers next = rw (div-one next)
 
 -- a refusal has no number to be held within a width
@@ -118,10 +119,10 @@ widths s w next r e =
 -- what an accepted command has passed
 pub record Passed (s : Setting) (r : Reading) (out : List ℕ) (a : Written) : Type 0 where
   pub setting : first (settingCases s) ≡ none
-  pub fields : fit (form r .word ++ form r .next) (values r) ≡ true
+  pub fields : numbersFit (form r .word ++ form r .next) (values r) ≡ true
   pub there : usable s (form r) ≡ true
-  pub room : length (wordsOf r) ≤ length out
-  pub words : a ≡ written.Words (length (wordsOf r))
+  pub room : length (ownWords r) ≤ length out
+  pub words : a ≡ written.Words (length (ownWords r))
 
 pub passed : (s : Setting) (r : Reading) (out : List ℕ) (a : Written) → a ≡ writeOf s r (length out) → writtenRefusal a ≡ none → Passed s r out a
 unfolding writeOf writtenRefusal
@@ -155,12 +156,12 @@ is-command s Reserved h = absurd h
 is-command s (Refusing r) h = absurd h
 
 -- what stands in the output: the words, and then what stood there
-written-over : (r : Reading) (out : List ℕ) → length (wordsOf r) ≤ length out → sets out 0 (wordsOf r) ≡ wordsOf r ++ drop (length (wordsOf r)) out
-written-over r out h = sets-eq (wordsOf r) out 0 (omega arith) ∙ ap (λ (k : ℕ). wordsOf r ++ drop k out) (zero-add (length (wordsOf r)))
+written-over : (r : Reading) (out : List ℕ) → length (ownWords r) ≤ length out → sets out 0 (ownWords r) ≡ ownWords r ++ drop (length (ownWords r)) out
+written-over r out h = sets-eq (ownWords r) out 0 (omega arith) ∙ ap (λ (k : ℕ). ownWords r ++ drop k out) (zero-add (length (ownWords r)))
 
 -- the first word, and the second where there is one
-word-0 : (r : Reading) (tail : List ℕ) → getD (wordsOf r ++ tail) 0 0 ≡ wordWith (form r .word) (values r)
-unfolding wordsOf
+word-0 : (r : Reading) (tail : List ℕ) → getD (ownWords r ++ tail) 0 0 ≡ wordWith (form r .word) (values r)
+unfolding ownWords
 word-0 r tail = refl
 
 word-1 : (ps : List Part) (w : ℕ) (ns tail : List ℕ) → suc (length (nextWord ps ns)) ≡ 2 → getD ((w ∷ nextWord ps ns) ++ tail) 1 0 ≡ wordWith ps ns
@@ -178,13 +179,13 @@ unfolding readingOf
 read-usable s w n f e u = choose-true (ap (usable s) e ∙ u) _ _ ∙ ap (λ (g : Form). commandIn g w n) e
 
 pub read-back : ReadBack
-unfolding outAfter writtenValues wordsOf
+unfolding outAfter writtenValues ownWords
 read-back s r out a exit c h =
     let p = passed s r out a (c .answer) h in
     let k = is-command s r (form-plain s r .0 (p .there)) in
-    let k-words = length (wordsOf r) in
-    let front : exit ≡ sets out 0 (wordsOf r) = c .memory ∙ ap (λ (z : Written). outAfter z r out) (p .words) in
-    let over : exit ≡ wordsOf r ++ drop k-words out = front ∙ written-over r out (p .room) in
+    let k-words = length (ownWords r) in
+    let front : exit ≡ sets out 0 (ownWords r) = c .memory ∙ ap (λ (z : Written). outAfter z r out) (p .words) in
+    let over : exit ≡ ownWords r ++ drop k-words out = front ∙ written-over r out (p .room) in
     record {
       count = ap writtenValues (p .words) ∙ ap (λ (n : ℕ). n ∷ []) (size-is r);
       same = λ next second x e.
@@ -197,8 +198,8 @@ read-back s r out a exit c h =
           ∙ read-plain s w next (p .setting)
           ∙ read-usable s w next (form r) (form-back r k (p .fields)) (p .there)
           ∙ command-back r k (p .fields) next (next-is r k (p .fields) next n-1);
-      length-stays = ap length front ∙ length-sets out 0 (wordsOf r);
-      tail-stays = subst (λ (n : ℕ). drop n exit ≡ drop n out) (size-is r) (ap (drop k-words) over ∙ drop-at (wordsOf r) (drop k-words out) k-words refl);
+      length-stays = ap length front ∙ length-sets out 0 (ownWords r);
+      tail-stays = subst (λ (n : ℕ). drop n exit ≡ drop n out) (size-is r) (ap (drop k-words) over ∙ drop-at (ownWords r) (drop k-words out) k-words refl);
     }
 
 -- what a word that reads as a command has
@@ -206,12 +207,12 @@ pub record Commands (s : Setting) (w n : ℕ) (r : Reading) : Type 0 where
   pub setting : first (settingCases s) ≡ none
   pub there : usable s (formOf w) ≡ true
   pub member : In (formOf w) forms
-  pub bits-fit : fits (formOf w .word) w ≡ true
+  pub bits-fit : hasBits (formOf w .word) w ≡ true
   pub is : r ≡ commandIn (formOf w) w n
 
-of-table : (w n : ℕ) → number (commandIn (formOf w) w n) ≤ 8 → (In (formOf w) forms) × (fits (formOf w .word) w ≡ true)
+of-table : (w n : ℕ) → number (commandIn (formOf w) w n) ≤ 8 → (In (formOf w) forms) × (hasBits (formOf w .word) w ≡ true)
 unfolding commandIn everythingElse number
-of-table w n = by-form (λ f. number (commandIn f w n) ≤ 8 → (In f forms) × (fits (f .word) w ≡ true)) w (λ f i t h. (i, t)) (λ h. absurd (omega arith))
+of-table w n = by-form (λ f. number (commandIn f w n) ≤ 8 → (In f forms) × (hasBits (f .word) w ≡ true)) w (λ f i t h. (i, t)) (λ h. absurd (omega arith))
 
 commands : (s : Setting) (w n : ℕ) (r : Reading) → r ≡ readOf s w n → number r ≤ 8 → Commands s w n r
 unfolding readOf readingOf refusedOr choose number
@@ -228,16 +229,16 @@ commands s w n r e h = at-setting (first (settingCases s)) refl e
     at-setting (some m) d e = absurd (let z : 10 ≤ 8 = subst (λ (x : Reading). number x ≤ 8) e h in omega arith)
 
 -- such a word is accepted by the writer, and its words are those that were read
-back-again : (s : Setting) (w n : ℕ) (out : List ℕ) → w < 2 ^ 32 → (f : Form) → In f forms → fits (f .word) w ≡ true → usable s f ≡ true → first (settingCases s) ≡ none
+back-again : (s : Setting) (w n : ℕ) (out : List ℕ) → w < 2 ^ 32 → (f : Form) → In f forms → hasBits (f .word) w ≡ true → usable s f ≡ true → first (settingCases s) ≡ none
     → (a : Written) (exit : List ℕ) → size (commandIn f w n) ≤ length out → Writes s (commandIn f w n) out a exit
     → (writtenRefusal a ≡ none) × (exit ≡ sameWords (commandIn f w n) w n ++ drop (size (commandIn f w n)) out)
 unfolding outAfter writtenRefusal
 back-again s w n out h f i t u d a exit space c =
     let r = commandIn f w n in
-    let room : length (wordsOf r) ≤ length out = rw size-is space in
+    let room : length (ownWords r) ≤ length out = rw size-is space in
     let same : form r ≡ f = read-by w n i .same in
     let past : Past s r = record { fine = none-fine s d; fields = numbers-fit f i w n; there = ap (usable s) same ∙ u } in
-    let words : a ≡ written.Words (length (wordsOf r)) = c .answer ∙ by-words s r (length out) past refl room in (
+    let words : a ≡ written.Words (length (ownWords r)) = c .answer ∙ by-words s r (length out) past refl room in (
       ap writtenRefusal words,
       c .memory ∙ ap (λ (z : Written). outAfter z r out) words ∙ written-over r out room
           ∙ rw size-is (ap (λ (l : List ℕ). l ++ drop (size r) out) (words-back f i w n h t)),

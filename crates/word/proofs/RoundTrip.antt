@@ -10,10 +10,10 @@ use borrow.Author.Tests.{ltb-true}
 use lib.ListN.{length, drop, take-append-drop, length-drop}
 use lib.Seq.{take-all, drop-at}
 use Rattle.word.specs.First.{choose}
-use Rattle.word.specs.Parts.{Part, fits, numbersIn, fit, wordWith, room}
+use Rattle.word.specs.Parts.{Part, hasBits, numbersIn, numbersFit, wordWith, room}
 use Rattle.word.specs.Form.{Form, increasing, nonIncreasing, sliConditional, returning, long, oldJump, jump, call, everythingElse, forms, formOf}
 use Rattle.word.specs.Reading.{number, form, values, commandIn}
-use Rattle.word.specs.Writing.{nextWord, wordsOf}
+use Rattle.word.specs.Writing.{nextWord, ownWords}
 use Rattle.word.specs.declared.reading.Reading.{Reading}
 use Rattle.word.specs.declared.reading.Reading.the-variants.{Increasing, NonIncreasing, Sli, Return, Long, OldJump, Jump, Call, Reserved, Refused}
 use Rattle.word.proofs.Tests.{both}
@@ -92,8 +92,8 @@ empty : {l : List ℕ} → length l ≡ 0 → l ≡ []
 empty {l = []} e = refl
 empty {l = x ∷ l} e = absurd (omega arith)
 
--- a command whose numbers fit
-module _ (r : Reading) (k : number r < 9) (f : fit (form r .word ++ form r .next) (values r) ≡ true) where
+-- a command whose numbers numbersFit
+module _ (r : Reading) (k : number r < 9) (f : numbersFit (form r .word ++ form r .next) (values r) ≡ true) where
   -- the numbers that its first word leaves to the next
   abbrev pub left : List ℕ
   left = drop (room (form r .word)) (values r)
@@ -113,8 +113,8 @@ module _ (r : Reading) (k : number r < 9) (f : fit (form r .word ++ form r .next
       ∙ take-all (room (form r .next)) left (omega (arith, left-count))
 
   -- the next word: the one that is written where the form has two, else any
-  pub next-is : (n : ℕ) → (length (wordsOf r) ≡ 2 → n ≡ wordWith (form r .next) left) → numbersIn (form r .next) n ≡ left
-  unfolding wordsOf nextWord numbersIn room
+  pub next-is : (n : ℕ) → (length (ownWords r) ≡ 2 → n ≡ wordWith (form r .next) left) → numbersIn (form r .next) n ≡ left
+  unfolding ownWords nextWord numbersIn room
   next-is n h = go (form r .next) left-count h next-back
     where
       go : (ps : List Part) → length left ≡ room ps → (suc (length (nextWord ps left)) ≡ 2 → n ≡ wordWith ps left)
@@ -133,12 +133,12 @@ module _ (r : Reading) (k : number r < 9) (f : fit (form r .word ++ form r .next
 
 -- a word that has a form's bits, written back
 module _ (f : Form) (i : In f forms) (w n : ℕ) where
-  pub numbers-fit : fit (form (commandIn f w n) .word ++ form (commandIn f w n) .next) (values (commandIn f w n)) ≡ true
-  unfolding fit
+  pub numbers-fit : numbersFit (form (commandIn f w n) .word ++ form (commandIn f w n) .next) (values (commandIn f w n)) ≡ true
+  unfolding numbersFit
   numbers-fit =
       let q = read-by w n i in
       let l = laid i in
-      let next : fit (f .next) (numbersIn (f .next) n) ≡ true = rw (append-nil, append-nil) at (within (top (f .next)) (f .next) [] [] (l .next-tiles) n) in
+      let next : numbersFit (f .next) (numbersIn (f .next) n) ≡ true = rw (append-nil, append-nil) at (within (top (f .next)) (f .next) [] [] (l .next-tiles) n) in
       rw (q .same, q .numbers) (within 32 (f .word) (f .next) (numbersIn (f .next) n) (l .tiles) w ∙ next)
 
   -- the second word is the next word but for its upper eight bits, in the long form alone
@@ -148,8 +148,8 @@ module _ (f : Form) (i : In f forms) (w n : ℕ) where
       eight (λ g. nextWord (g .next) (numbersIn (g .next) n) ≡ choose (eqb (number (commandIn g w n)) 5) (n % 2 ^ 24 ∷ []) [])
       refl refl refl refl (ap (λ (x : ℕ). x ∷ []) (omega arith)) refl refl refl i
 
-  pub words-back : w < 2 ^ 32 → fits (f .word) w ≡ true → wordsOf (commandIn f w n) ≡ w ∷ choose (eqb (number (commandIn f w n)) 5) (n % 2 ^ 24 ∷ []) []
-  unfolding wordsOf
+  pub words-back : w < 2 ^ 32 → hasBits (f .word) w ≡ true → ownWords (commandIn f w n) ≡ w ∷ choose (eqb (number (commandIn f w n)) 5) (n % 2 ^ 24 ∷ []) []
+  unfolding ownWords
   words-back h e =
       let q = read-by w n i in
       let l = laid i in

@@ -5,7 +5,7 @@ use mathlib.Core.Bool.{Bool, true, false}
 use mathlib.Core.List.{List, [], _∷_, _++_}
 use mathlib.Core.Logic.{_↔_}
 use mathlib.Core.Option.{Option, none, some}
-use Rattle.word.specs.First.{Case, _when_, first, choose, Plain, FirstIs}
+use Rattle.word.specs.First.{Case, _when_, first, choose, PlainCase, FirstIs}
 use Rattle.word.specs.Setting.{settingCases, refusedOr, checkOf}
 use Rattle.word.specs.Answers.{checkRefusal}
 use Rattle.word.specs.declared.setting.Refusal.{Refusal}
@@ -43,7 +43,7 @@ module _ {A : Type 0} (refuse : Refusal → A) (tells : A → Option ℕ) (numbe
   told-first cs a x h e = ap tells e ∙ told a h (first cs)
 
   pub told-plain :
-      (cs : List Case) (ps : List Plain) (a x : A)
+      (cs : List Case) (ps : List PlainCase) (a x : A)
       → Agree cs ps
       → tells a ≡ none
       → x ≡ refusedOr refuse (first cs) a

@@ -14,8 +14,8 @@ use Rattle.word.specs.First.{_when_, first}
 use Rattle.word.specs.Setting.{checkOf, refusedOr, FIELD, FORM, ROOM}
 use Rattle.word.specs.Form.{increasing, nonIncreasing, sliConditional, returning, long, oldJump, jump, call, everythingElse, usable, forms}
 use Rattle.word.specs.Reading.{number, form, values}
-use Rattle.word.specs.Parts.{fit, wordWith, room}
-use Rattle.word.specs.Writing.{nextWord, wordsOf, writeCases, writeOf, outAfter}
+use Rattle.word.specs.Parts.{numbersFit, wordWith, room}
+use Rattle.word.specs.Writing.{nextWord, ownWords, writeCases, writeOf, outAfter}
 use Rattle.word.specs.Contracts.{Writes}
 use Rattle.word.specs.declared.setting.Refusal.{Refusal}
 use Rattle.word.specs.declared.setting.Setting.{Setting}
@@ -31,8 +31,8 @@ abbrev others : List ℕ
 others = 0 ∷ 1 ∷ 2 ∷ 3 ∷ 5 ∷ 6 ∷ 7 ∷ 8 ∷ 9 ∷ []
 
 -- a command that is no long form has one word, and a long form's second is its count
-pub one-word : (r : Reading) → OneOf others (tagOf the-type r) → wordsOf r ≡ wordWith (form r .word) (values r) ∷ []
-unfolding wordsOf nextWord form number forms increasing nonIncreasing sliConditional returning oldJump jump call everythingElse
+pub one-word : (r : Reading) → OneOf others (tagOf the-type r) → ownWords r ≡ wordWith (form r .word) (values r) ∷ []
+unfolding ownWords nextWord form number forms increasing nonIncreasing sliConditional returning oldJump jump call everythingElse
 one-word (Increasing c s m) h = refl
 one-word (NonIncreasing c s m) h = refl
 one-word (Sli k) h = refl
@@ -44,14 +44,14 @@ one-word (Call t) h = refl
 one-word Reserved h = refl
 one-word (Refused r) h = refl
 
-pub two-words : {r : Reading} {s m c : ℕ} → r ≡ Long s m c → wordsOf r ≡ wordWith (form (Long s m c) .word) (values (Long s m c)) ∷ c ∷ []
-unfolding wordsOf nextWord form number forms values long wordWith room
+pub two-words : {r : Reading} {s m c : ℕ} → r ≡ Long s m c → ownWords r ≡ wordWith (form (Long s m c) .word) (values (Long s m c)) ∷ c ∷ []
+unfolding ownWords nextWord form number forms values long wordWith room
 two-words {r} {s} {m} {c} e = rw e (ap (λ (x : ℕ). wordWith (long .word) (s ∷ m ∷ c ∷ []) ∷ x ∷ []) (omega arith))
 
 -- what a command has passed before the test of the room
 pub record Past (s : Setting) (r : Reading) : Type 0 where
   pub fine : checkOf s ≡ check.Fine
-  pub fields : fit (form r .word ++ form r .next) (values r) ≡ true
+  pub fields : numbersFit (form r .word ++ form r .next) (values r) ≡ true
   pub there : usable s (form r) ≡ true
 
 -- the answer, by the first test that decides it
@@ -60,18 +60,18 @@ module _ (s : Setting) (r : Reading) (space : ℕ) where
   unfolding writeOf
   by-setting x e = refused-by s (writeCases s r space) written.Refused _ x e
 
-  pub by-field : checkOf s ≡ check.Fine → fit (form r .word ++ form r .next) (values r) ≡ false → writeOf s r space ≡ written.Refused (record { number = FIELD })
+  pub by-field : checkOf s ≡ check.Fine → numbersFit (form r .word ++ form r .next) (values r) ≡ false → writeOf s r space ≡ written.Refused (record { number = FIELD })
   unfolding writeOf
   by-field fine f = passed-by s (writeCases s r space) written.Refused _ fine ∙ hit FIELD _ written.Refused _ (ap not f)
 
-  pub by-form : checkOf s ≡ check.Fine → fit (form r .word ++ form r .next) (values r) ≡ true → usable s (form r) ≡ false → writeOf s r space ≡ written.Refused (record { number = FORM })
+  pub by-form : checkOf s ≡ check.Fine → numbersFit (form r .word ++ form r .next) (values r) ≡ true → usable s (form r) ≡ false → writeOf s r space ≡ written.Refused (record { number = FORM })
   unfolding writeOf
   by-form fine f u =
       passed-by s (writeCases s r space) written.Refused _ fine
       ∙ miss FIELD _ written.Refused _ (ap not f)
       ∙ hit FORM _ written.Refused _ (ap not u)
 
-  module _ (p : Past s r) {ws : List ℕ} (words : wordsOf r ≡ ws) where
+  module _ (p : Past s r) {ws : List ℕ} (words : ownWords r ≡ ws) where
     past : writeOf s r space ≡ refusedOr written.Refused (first (ROOM when ltb space (length ws) ∷ [])) (written.Words (length ws))
     unfolding writeOf
     past =
@@ -92,6 +92,6 @@ module _ (s : Setting) (r : Reading) (out : List ℕ) where
   unfolding outAfter
   refused x e = record { answer = sym e; memory = refl }
 
-  pub wrote : {k : ℕ} {ws : List ℕ} → wordsOf r ≡ ws → writeOf s r (length out) ≡ written.Words k → Writes s r out (written.Words k) (sets out 0 ws)
+  pub wrote : {k : ℕ} {ws : List ℕ} → ownWords r ≡ ws → writeOf s r (length out) ≡ written.Words k → Writes s r out (written.Words k) (sets out 0 ws)
   unfolding outAfter
   wrote w e = record { answer = sym e; memory = ap (sets out 0) (sym w) }

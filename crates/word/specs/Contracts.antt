@@ -33,9 +33,9 @@ pub record Writes (s : Setting) (r : Reading) (out : List ℕ) (a : Written) (ex
   pub answer : a ≡ writeOf s r (length out)
   pub memory : exit ≡ outAfter a r out
 
--- `present`, of a level and a method's byte number
+-- `present`, of a level and a method's number, which is its byte number divided by 4
 abbrev pub Presents : Level → ℕ → Bool → Type 0
-Presents level m r = r ≡ presentOf (level .number) m
+Presents level n r = r ≡ presentOf (level .number) n
 
 -- `word_at`, of words lent as bytes and a place; past the last whole word stands 0
 abbrev pub LentAt : List ℕ → ℕ → ℕ → Type 0

@@ -26,15 +26,15 @@ first [] = none
 first (c ∷ cs) = choose (c .holds) (some (c .number)) (first cs)
 
 -- The same in plain terms, for the promises: a number with a proposition,
-pub record Plain : Type 1 where
+pub record PlainCase : Type 1 where
   pub number : ℕ
   pub holds : Type 0
 
 infix 70 _if_
-abbrev pub _if_ : ℕ → Type 0 → Plain
+abbrev pub _if_ : ℕ → Type 0 → PlainCase
 n if p = record { number = n; holds = p }
 
 -- and that n is the number of the first that holds: its condition holds, and none before it does
-abbrev pub FirstIs : List Plain → ℕ → Type 0
+abbrev pub FirstIs : List PlainCase → ℕ → Type 0
 FirstIs [] n = ⊥
 FirstIs (c ∷ cs) n = (c .holds × (n ≡ c .number)) ⊎ ((c .holds → ⊥) × FirstIs cs n)

@@ -1,6 +1,11 @@
--- Words lent as bytes.
-use Prim.Native.Nat.{ℕ, _+_, _*_, _^_}
+-- What is lent: words of 32 bits, and words lent as bytes.
+use Prim.Native.Nat.{ℕ, _+_, _*_, _^_, _<_}
 use mathlib.Core.List.{List, [], _∷_}
+use lib.ListN.{getD}
+
+-- What the card reads are words of 32 bits: a list of the logic may hold any numbers, lent memory cannot.
+abbrev pub Words : List ℕ → Type 0
+Words l = (i : ℕ) → getD l i 0 < 2 ^ 32
 
 -- "words little-endian": the lowest byte first; what is left of a part word is none
 unfoldable pub wordsOf : List ℕ → List ℕ

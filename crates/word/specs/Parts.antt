@@ -14,44 +14,44 @@ pub data Part : Type 0 where
   -- they are this number: "Bits 31-29 = 000"
   is : (hi lo value : ℕ) → Part
   -- they hold a number: "Count bits 28-18"
-  holds : (hi lo : ℕ) → Part
+  carries : (hi lo : ℕ) → Part
   -- they hold a method or an address, whose other bits are 0: "target bits 28-2"
   address : (hi lo : ℕ) → Part
   -- they "are ignored and written as 0"
   spare : (hi lo : ℕ) → Part
 
 -- whether the bits of a word are what the parts say
-unfoldable pub fits : List Part → ℕ → Bool
-fits [] w = true
-fits (is hi lo v ∷ ps) w = eqb (bits hi lo w) v && fits ps w
-fits (holds hi lo ∷ ps) w = fits ps w
-fits (address hi lo ∷ ps) w = fits ps w
-fits (spare hi lo ∷ ps) w = fits ps w
+unfoldable pub hasBits : List Part → ℕ → Bool
+hasBits [] w = true
+hasBits (is hi lo v ∷ ps) w = eqb (bits hi lo w) v && hasBits ps w
+hasBits (carries hi lo ∷ ps) w = hasBits ps w
+hasBits (address hi lo ∷ ps) w = hasBits ps w
+hasBits (spare hi lo ∷ ps) w = hasBits ps w
 
--- the numbers that a word holds
+-- the numbers that a word carries
 unfoldable pub numbersIn : List Part → ℕ → List ℕ
 numbersIn [] w = []
 numbersIn (is hi lo v ∷ ps) w = numbersIn ps w
-numbersIn (holds hi lo ∷ ps) w = bits hi lo w ∷ numbersIn ps w
+numbersIn (carries hi lo ∷ ps) w = bits hi lo w ∷ numbersIn ps w
 numbersIn (address hi lo ∷ ps) w = bits hi lo w * 2 ^ lo ∷ numbersIn ps w
 numbersIn (spare hi lo ∷ ps) w = numbersIn ps w
 
--- whether the numbers fit the parts: "a number wider than its field, or an address or method not a multiple of 4"
-unfoldable pub fit : List Part → List ℕ → Bool
-fit [] ns = true
-fit (is hi lo v ∷ ps) ns = fit ps ns
-fit (holds hi lo ∷ ps) [] = false
-fit (holds hi lo ∷ ps) (n ∷ ns) = ltb n (2 ^ (hi + 1 - lo)) && fit ps ns
-fit (address hi lo ∷ ps) [] = false
-fit (address hi lo ∷ ps) (n ∷ ns) = ltb n (2 ^ (hi + 1)) && eqb (n % 2 ^ lo) 0 && fit ps ns
-fit (spare hi lo ∷ ps) ns = fit ps ns
+-- whether the numbers numbersFit the parts: "a number wider than its field, or an address or method not a multiple of 4"
+unfoldable pub numbersFit : List Part → List ℕ → Bool
+numbersFit [] ns = true
+numbersFit (is hi lo v ∷ ps) ns = numbersFit ps ns
+numbersFit (carries hi lo ∷ ps) [] = false
+numbersFit (carries hi lo ∷ ps) (n ∷ ns) = ltb n (2 ^ (hi + 1 - lo)) && numbersFit ps ns
+numbersFit (address hi lo ∷ ps) [] = false
+numbersFit (address hi lo ∷ ps) (n ∷ ns) = ltb n (2 ^ (hi + 1)) && eqb (n % 2 ^ lo) 0 && numbersFit ps ns
+numbersFit (spare hi lo ∷ ps) ns = numbersFit ps ns
 
 -- the word whose parts hold these numbers
 unfoldable pub wordWith : List Part → List ℕ → ℕ
 wordWith [] ns = 0
 wordWith (is hi lo v ∷ ps) ns = v * 2 ^ lo + wordWith ps ns
-wordWith (holds hi lo ∷ ps) [] = wordWith ps []
-wordWith (holds hi lo ∷ ps) (n ∷ ns) = n * 2 ^ lo + wordWith ps ns
+wordWith (carries hi lo ∷ ps) [] = wordWith ps []
+wordWith (carries hi lo ∷ ps) (n ∷ ns) = n * 2 ^ lo + wordWith ps ns
 wordWith (address hi lo ∷ ps) [] = wordWith ps []
 wordWith (address hi lo ∷ ps) (n ∷ ns) = n + wordWith ps ns
 wordWith (spare hi lo ∷ ps) ns = wordWith ps ns
@@ -60,6 +60,6 @@ wordWith (spare hi lo ∷ ps) ns = wordWith ps ns
 unfoldable pub room : List Part → ℕ
 room [] = 0
 room (is hi lo v ∷ ps) = room ps
-room (holds hi lo ∷ ps) = suc (room ps)
+room (carries hi lo ∷ ps) = suc (room ps)
 room (address hi lo ∷ ps) = suc (room ps)
 room (spare hi lo ∷ ps) = room ps

@@ -8,9 +8,9 @@ use mathlib.Core.Logic.{_⊎_, _↔_}
 use mathlib.Core.Option.{none, some}
 use lib.Dec.{eqb}
 use lib.ListN.{length, getD, drop}
-use Rattle.word.specs.First.{choose, Plain, _if_, FirstIs}
+use Rattle.word.specs.First.{choose, PlainCase, _if_, FirstIs}
 use Rattle.word.specs.Setting.{LEVEL, MODE, SLI, SIZE, FIELD, ROOM, FORM}
-use Rattle.word.specs.Parts.{fits}
+use Rattle.word.specs.Parts.{hasBits}
 use Rattle.word.specs.Form.{forms, everythingElse}
 use Rattle.word.specs.Reading.{number, values}
 use Rattle.word.specs.Answers.{checkRefusal, readingRefusal, placeRefusal, writtenRefusal, placeValues, writtenValues}
@@ -26,7 +26,7 @@ use Rattle.word.specs.declared.writing.Written.{Written}
 -- The conditions of the refusals, in plain terms.
 
 -- LEVEL, MODE, SLI: what refuses a setting
-abbrev pub settingPlain : Setting → List Plain
+abbrev pub settingPlain : Setting → List PlainCase
 settingPlain s =
     LEVEL if (5 < s .level .number)
     ∷ MODE if ((1 < s .mode .number) ⊎ ((s .mode .number ≡ 1) × (s .level .number < 4)))
@@ -64,11 +64,11 @@ abbrev pub size : Reading → ℕ
 size r = choose (eqb (number r) 5) 2 1
 
 -- SIZE, of lent words
-abbrev pub sizePlain : List ℕ → List Plain
+abbrev pub sizePlain : List ℕ → List PlainCase
 sizePlain ws = SIZE if (1048576 < length ws) ∷ []
 
 -- FIELD, FORM, ROOM: what refuses a command and an output
-abbrev pub writePlain : Setting → Reading → List ℕ → List Plain
+abbrev pub writePlain : Setting → Reading → List ℕ → List PlainCase
 writePlain s r out = FIELD if (Within r → ⊥) ∷ FORM if (Available s r → ⊥) ∷ ROOM if (length out < size r) ∷ []
 
 -- Promise 1. A refusal is given exactly when the table says: an answer is refusal n if and only if n's condition holds
@@ -104,7 +104,7 @@ pub record One : Type 0 where
       → Writes s r out a x
       → Writes s r out b y
       → (a ≡ b) × (x ≡ y)
-  pub present : (level : Level) (m : ℕ) (a b : Bool) → Presents level m a → Presents level m b → a ≡ b
+  pub present : (level : Level) (n : ℕ) (a b : Bool) → Presents level n a → Presents level n b → a ≡ b
   pub word-at : (bytes : List ℕ) (p a b : ℕ) → LentAt bytes p a → LentAt bytes p b → a ≡ b
 
 -- Promise 2, first half: what the writer writes reads back as the same command, and it writes nothing else.
@@ -155,19 +155,19 @@ pub record AtPlace : Type 0 where
 abbrev pub Widths : Type 0
 Widths = (s : Setting) (w next : ℕ) (r : Reading) → Reads s w next r → Within r
 
--- Which methods a level has, by their byte numbers: "0x00 always; 0x10 to 0x24 at level 5; 0x50 from 1; 0x60 to 0x6c from 2;
--- 0x80 from 3", and every method from 0x100 up.
+-- Which methods a level has, by their numbers, a fourth of their byte numbers: "0x00 always; 0x10 to 0x24 at level 5; 0x50 from 1;
+-- 0x60 to 0x6c from 2; 0x80 from 3", and every method from 0x100 up.
 abbrev pub Specials : Type 0
 Specials =
-    (level : Level) (m : ℕ) (a : Bool)
-    → Presents level m a
+    (level : Level) (n : ℕ) (a : Bool)
+    → Presents level n a
     → a ≡ true
-    ↔ ((0x100 ≤ m)
-    ⊎ (m ≡ 0x00)
-    ⊎ ((0x10 ≤ m) × (m ≤ 0x24) × (5 ≤ level .number))
-    ⊎ ((m ≡ 0x50) × (1 ≤ level .number))
-    ⊎ ((0x60 ≤ m) × (m ≤ 0x6c) × (2 ≤ level .number))
-    ⊎ ((m ≡ 0x80) × (3 ≤ level .number)))
+    ↔ ((0x40 ≤ n)
+    ⊎ (n ≡ 0x00)
+    ⊎ ((0x04 ≤ n) × (n ≤ 0x09) × (5 ≤ level .number))
+    ⊎ ((n ≡ 0x14) × (1 ≤ level .number))
+    ⊎ ((0x18 ≤ n) × (n ≤ 0x1b) × (2 ≤ level .number))
+    ⊎ ((n ≡ 0x20) × (3 ≤ level .number)))
 
 -- No word has the bits of two forms, so the order of the table says nothing.
 abbrev pub OneForm : Type 0
@@ -175,8 +175,8 @@ OneForm =
     (w i j : ℕ)
     → i < 8
     → j < 8
-    → fits (getD forms i everythingElse .word) w ≡ true
-    → fits (getD forms j everythingElse .word) w ≡ true
+    → hasBits (getD forms i everythingElse .word) w ≡ true
+    → hasBits (getD forms j everythingElse .word) w ≡ true
     → getD forms i everythingElse ≡ getD forms j everythingElse
 
 -- "words little-endian": the word at a place of lent bytes has the lowest byte first, and past the last whole word stands 0.

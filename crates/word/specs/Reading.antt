@@ -43,6 +43,19 @@ values (Call t) = t ∷ []
 values Reserved = []
 values (Refused r) = r .number ∷ []
 
+-- how many parameters follow a command's own words: its count
+unfoldable pub parameterCount : Reading → ℕ
+parameterCount (Increasing c s m) = c
+parameterCount (NonIncreasing c s m) = c
+parameterCount (Sli k) = 0
+parameterCount Return = 0
+parameterCount (Long s m c) = c
+parameterCount (OldJump t) = 0
+parameterCount (Jump t) = 0
+parameterCount (Call t) = 0
+parameterCount Reserved = 0
+parameterCount (Refused r) = 0
+
 -- the command of a form that a word holds; `next` is the word after it
 unfoldable pub commandIn : Form → ℕ → ℕ → Reading
 commandIn f w next = (f .command) (numbersIn (f .word) w ++ numbersIn (f .next) next)

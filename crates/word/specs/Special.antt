@@ -1,5 +1,5 @@
 -- Which special methods a level has.
-use Prim.Native.Nat.{ℕ}
+use Prim.Native.Nat.{ℕ, _*_}
 use mathlib.Core.Bool.{Bool, false, _&&_, _||_}
 use mathlib.Core.List.{List, [], _∷_}
 use lib.Dec.{leb}
@@ -21,6 +21,7 @@ unfoldable pub listed : List Special → ℕ → ℕ → Bool
 listed [] level m = false
 listed (x ∷ xs) level m = (leb (x .from) m && leb m (x .to) && leb (x .level) level) || listed xs level m
 
--- "A method below 0x100 that the level lacks": from 0x100 up none is special, and every level has it
+-- "A method below 0x100 that the level lacks": from 0x100 up none is special, and every level has it. The table has byte numbers;
+-- a method is given by its number n, as a run holds it, which is its byte number divided by 4.
 unfoldable pub presentOf : ℕ → ℕ → Bool
-presentOf level m = leb 0x100 m || listed specials level m
+presentOf level n = leb 0x100 (4 * n) || listed specials level (4 * n)

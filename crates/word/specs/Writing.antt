@@ -7,7 +7,7 @@ use lib.ListN.{length, drop}
 use lib.Seq.{sets}
 use Rattle.word.specs.First.{Case, first, _when_}
 use Rattle.word.specs.Setting.{settingCases, refusedOr, FIELD, FORM, ROOM}
-use Rattle.word.specs.Parts.{Part, fit, wordWith, room}
+use Rattle.word.specs.Parts.{Part, numbersFit, wordWith, room}
 use Rattle.word.specs.Form.{usable}
 use Rattle.word.specs.Reading.{form, values}
 use Rattle.word.specs.declared.setting.Setting.{Setting}
@@ -21,22 +21,22 @@ nextWord [] ns = []
 nextWord (p ∷ ps) ns = wordWith (p ∷ ps) ns ∷ []
 
 -- "The writer writes a command's first word and a long form's count word"
-unfoldable pub wordsOf : Reading → List ℕ
-wordsOf r = wordWith (form r .word) (values r) ∷ nextWord (form r .next) (drop (room (form r .word)) (values r))
+unfoldable pub ownWords : Reading → List ℕ
+ownWords r = wordWith (form r .word) (values r) ∷ nextWord (form r .next) (drop (room (form r .word)) (values r))
 
 -- "10, 12, 11": what refuses a command and an output of so many words
 abbrev pub writeCases : Setting → Reading → ℕ → List Case
 writeCases s r space =
-    FIELD when not (fit (form r .word ++ form r .next) (values r))
+    FIELD when not (numbersFit (form r .word ++ form r .next) (values r))
     ∷ FORM when not (usable s (form r))
-    ∷ ROOM when ltb space (length (wordsOf r))
+    ∷ ROOM when ltb space (length (ownWords r))
     ∷ []
 
 -- "Writer: 1, 2, 4, 10, 12, 11"
 unfoldable pub writeOf : Setting → Reading → ℕ → Written
-writeOf s r space = refusedOr written.Refused (first (settingCases s ++ writeCases s r space)) (written.Words (length (wordsOf r)))
+writeOf s r space = refusedOr written.Refused (first (settingCases s ++ writeCases s r space)) (written.Words (length (ownWords r)))
 
 -- "No refusal writes lent memory"; else the words stand at the front, and "later words of the output stay"
 unfoldable pub outAfter : Written → Reading → List ℕ → List ℕ
 outAfter (written.Refused n) r out = out
-outAfter (written.Words k) r out = sets out 0 (wordsOf r)
+outAfter (written.Words k) r out = sets out 0 (ownWords r)

@@ -5,7 +5,7 @@ ghost use mathlib.Core.List.{_++_};
 ghost use Prim.Native.Nat.{_+_, _*_, _^_, _%_, _<_};
 ghost use lib.Dec.{ltb, eqb};
 ghost use Rattle.word.specs.Reading.{form, values};
-ghost use Rattle.word.specs.Parts.{fit, wordWith};
+ghost use Rattle.word.specs.Parts.{numbersFit, wordWith};
 ghost use Rattle.word.specs.Contracts.{Writes};
 use crate::reading::Reading;
 use crate::reading::available;
@@ -64,7 +64,7 @@ pub fn write(setting: Setting, command: Reading, out: &mut [u32]) -> Written
 
 // Whether each number of a command fits its field. Neither 'reserved' nor a refusal has a field.
 fn fields_fit(command: Reading) -> bool
-    ensures { λ r. ⌜ r ≡ fit (form command .word ++ form command .next) (values command) ⌝ }
+    ensures { λ r. ⌜ r ≡ numbersFit (form command .word ++ form command .next) (values command) ⌝ }
 {
     match command {
         Reading::Increasing {
@@ -92,7 +92,7 @@ fn fields_fit(command: Reading) -> bool
     }
 }
 
-// Whether a subchannel and a method fit their fields, and the method is a multiple of 4.
+// Whether a subchannel and a method numbersFit their fields, and the method is a multiple of 4.
 fn place_fits(subchannel: u32, method: u32) -> bool
     ensures { λ r. ⌜ r ≡ ltb subchannel 8 && (ltb method 8192 && eqb (method % 4) 0) ⌝ }
 {
@@ -107,7 +107,7 @@ fn place_fits(subchannel: u32, method: u32) -> bool
 
 // A command's first word.
 fn first_word(command: Reading) -> u32
-    requires { ⌜ fit (form command .word ++ form command .next) (values command) ≡ true ⌝ }
+    requires { ⌜ numbersFit (form command .word ++ form command .next) (values command) ≡ true ⌝ }
     ensures { λ r. ⌜ r ≡ wordWith (form command .word) (values command) ⌝ }
 {
     match command {

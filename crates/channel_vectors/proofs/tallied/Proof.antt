@@ -7,10 +7,10 @@ use Rattle.channel_vectors.proofs.tallied.Tie as tie
 
 -- the pools keep their lengths
 abbrev Inv-loop : tie.InvT-loop
-Inv-loop small₀ large₀ entries₀ table₀ tally₀ counter₀ small large entries table tally counter = (length small ≡ length small₀) × (length large ≡ length large₀) × (length entries ≡ length entries₀) × (length table ≡ length table₀)
+Inv-loop small₀ large₀ table₀ tally₀ counter₀ small large table tally counter = (length small ≡ length small₀) × (length large ≡ length large₀) × (length table ≡ length table₀)
 
 abbrev μ-loop : tie.MeasureT-loop
-μ-loop small₀ large₀ entries₀ table₀ tally₀ counter₀ small large entries table tally counter = 1000000 - counter
+μ-loop small₀ large₀ table₀ tally₀ counter₀ small large table tally counter = 1000000 - counter
 
 pub tallied-spec : {M : Type 1} → statement M
 tallied-spec =
@@ -21,8 +21,6 @@ tallied-spec =
     (λ c κs. search needs)
     (λ c. search needs)
     (λ c κs. search needs)
-    (λ c. search needs)
-    (λ c. search needs)
     (λ c. search needs)
     (λ c. search needs)
     (λ c. search needs)

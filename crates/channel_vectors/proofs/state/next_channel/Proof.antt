@@ -7,10 +7,10 @@ use Rattle.channel_vectors.proofs.state.next_channel.Tie as tie
 
 -- the array keeps its length
 abbrev Inv-loop : tie.InvT-loop
-Inv-loop words₀ i₀ words i = length words ≡ 41
+Inv-loop words₀ i₀ words i = length words ≡ length words₀
 
 abbrev μ-loop : tie.MeasureT-loop
-μ-loop words₀ i₀ words i = 41 - i
+μ-loop words₀ i₀ words i = length words₀ - i
 
 pub next-channel-spec : {M : Type 1} → statement M
 next-channel-spec =

@@ -1,5 +1,5 @@
 use borrow.Author.Needs.{needs}
-use Rattle.rules.proofs.Together.{bits-narrow}
+use Rattle.rules.proofs.AllBits.{bits-narrow}
 use Rattle.gate.proofs.judging.bytes_verdict.Statement.{statement}
 use Rattle.gate.proofs.judging.bytes_verdict.Tie as tie
 

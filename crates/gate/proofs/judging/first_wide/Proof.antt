@@ -1,6 +1,6 @@
 use Prim.Native.Nat.{_-_}
 use native.Mathlib.Omega.{arith}
-use Rattle.rules.specs.Map.{tooWide}
+use Rattle.rules.specs.Map.{overThree}
 use Rattle.rules.proofs.Scans.{Passed, outset}
 use Rattle.rules.proofs.Verdicts.{byte-onward, byte-met, bytes-fine}
 use Rattle.gate.proofs.judging.first_wide.Statement.{statement}
@@ -8,7 +8,7 @@ use Rattle.gate.proofs.judging.first_wide.Tie as tie
 
 -- no byte passed over is too wide
 abbrev Inv-loop : tie.InvT-loop
-Inv-loop map place₀ place-end place = Passed (tooWide map) place-end place
+Inv-loop map place₀ place-end place = Passed (overThree map) place-end place
 
 abbrev μ-loop : tie.MeasureT-loop
 μ-loop map place₀ place-end place = place-end - place

@@ -6,8 +6,9 @@ use borrow.Author.Needs.{needs}
 use lib.ListN.{length}
 use Rattle.word.specs.Setting.{checkOf}
 use Rattle.word.specs.declared.setting.Check.the-variants.{Fine}
+use Rattle.word.proofs.Bytes.{words-many}
 use Rattle.rules.specs.Judging.{lengthRefused, settingOf}
-use Rattle.rules.proofs.Refusals.{lengths, by-setting, by-size, by-length, not-refused}
+use Rattle.rules.proofs.Refusals.{lengths, judge-by-setting, judge-by-size, judge-by-length, judge-made}
 use Rattle.gate.proofs.judging.judge.Statement.{statement}
 use Rattle.gate.proofs.judging.judge.Tie as tie
 
@@ -38,20 +39,20 @@ judge-spec =
     (λ c κs. search needs)
     (λ c. search needs)
     (λ c κs. search needs)
-    (λ c. c .refused .ensures ∙ by-setting _ _ _ _ _ _ (sym (c .before .before .before .before .check .ensures) ∙ c .before .before .check2 .given .1))
+    (λ c. c .refused .ensures ∙ judge-by-setting _ _ _ _ _ _ _ (sym (c .before .before .before .before .check .ensures) ∙ c .before .before .check2 .given .1))
     (λ c. search needs)
     (λ c. search needs)
     (λ c κs. search needs)
-    (λ c. c .refused2 .ensures ∙ by-size _ _ _ _ _ (fine (c .before .before)) (c .before .if1 .taken))
+    (λ c. c .refused2 .ensures ∙ judge-by-size _ _ _ _ _ _ (fine (c .before .before)) (c .before .if1 .taken))
     (λ c κs. search needs)
     (λ c κs. search needs)
     (λ c.
     let small = c .before .before .before in
     c .refused3 .ensures
-    ∙ by-length _ _ _ _ _ (fine (small .before)) (small .if1 .left) (sym (c .before .before .no-such-lengths .ensures) ∙ c .before .if2 .taken))
-    (λ c κs. let h = sound c in (h .0, h .1, omega arith))
+    ∙ judge-by-length _ _ _ _ _ _ (fine (small .before)) (small .if1 .left) (sym (c .before .before .no-such-lengths .ensures) ∙ c .before .if2 .taken))
+    (λ c κs. let h = sound c in (words-many _ (h .0), omega arith))
     (λ c κs. sound (c .before) .1)
     (λ c.
     let past = c .before .before in
     let small = past .before .before in
-    rw (c .before .whole-verdict .ensures, c .set-bits .ensures) (not-refused _ _ _ _ _ (fine (small .before)) (small .if1 .left) (tested past))))
+    rw (c .before .whole-verdict .ensures, c .set-bits .ensures) (judge-made _ _ _ _ _ _ (fine (small .before)) (small .if1 .left) (tested past))))

@@ -3,7 +3,7 @@ use mathlib.Core.Path.{_≡_, refl}
 use native.Mathlib.Omega.{arith}
 use lib.ListN.{length}
 use Rattle.rules.specs.Map.{allBits}
-use Rattle.rules.proofs.Together.{bits-more}
+use Rattle.rules.proofs.AllBits.{bits-more}
 use Rattle.gate.proofs.map.all_bits.Statement.{statement}
 use Rattle.gate.proofs.map.all_bits.Tie as tie
 

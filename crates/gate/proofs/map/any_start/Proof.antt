@@ -1,5 +1,5 @@
 use borrow.Author.Needs.{needs}
-use Rattle.rules.proofs.Together.{bits-start}
+use Rattle.rules.proofs.AllBits.{bits-start}
 use Rattle.gate.proofs.map.any_start.Statement.{statement}
 use Rattle.gate.proofs.map.any_start.Tie as tie
 

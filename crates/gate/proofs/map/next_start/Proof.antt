@@ -9,10 +9,10 @@ use Rattle.gate.proofs.map.next_start.Tie as tie
 
 -- no place passed over is a start
 abbrev Inv-loop : tie.InvT-loop
-Inv-loop map from place₀ place-end place = (from ≤ place) × (place ≤ place-end) × ((k : ℕ) → from ≤ k → k < place → getD map k 0 ≡ 0)
+Inv-loop map from to place₀ place = (from ≤ place) × (place ≤ to) × ((k : ℕ) → from ≤ k → k < place → getD map k 0 ≡ 0)
 
 abbrev μ-loop : tie.MeasureT-loop
-μ-loop map from place₀ place-end place = place-end - place
+μ-loop map from to place₀ place = to - place
 
 pub next-start-spec : {M : Type 1} → statement M
 next-start-spec =

@@ -1,39 +1,45 @@
-use Prim.Native.Nat.{_-_}
+use Prim.Native.Nat.{ℕ, _-_}
+use mathlib.Core.Bool.{Bool}
+use mathlib.Core.List.{List}
 use native.Mathlib.Omega.{arith}
+use borrow.Author.Needs.{needs}
 use Rattle.rules.specs.Permit.{permits}
-use Rattle.rules.specs.Parameters.{denied}
-use Rattle.rules.proofs.Scans.{Passed, outset, none-passes}
-use Rattle.rules.proofs.Methods.{method-below, fails, method-onward, method-met}
+use Rattle.rules.specs.declared.parameters.Methods.{Methods}
+use Rattle.rules.proofs.Scans.{Passed, outset}
+use Rattle.rules.proofs.Methods.{fails, method-onward, method-met, methods-fine}
 use Rattle.gate.proofs.parameters.any_denied.Statement.{statement}
 use Rattle.gate.proofs.parameters.any_denied.Tie as tie
 
+-- the test that is made of each method
+abbrev test : List ℕ → Methods → ℕ → Bool
+test permit methods = permits permit (methods .subchannel)
+
 -- no parameter passed over goes to a method that is not permitted
 abbrev Inv-loop : tie.InvT-loop
-Inv-loop permit ps k₀ k-end k = Passed (fails (permits permit (ps .subchannel)) ps) k-end k
+Inv-loop permit methods count k₀ k = Passed (fails (test permit methods) methods) count k
 
 abbrev μ-loop : tie.MeasureT-loop
-μ-loop permit ps k₀ k-end k = k-end - k
+μ-loop permit methods count k₀ k = count - k
 
 pub any-denied-spec : {M : Type 1} → statement M
-unfolding denied fails
 any-denied-spec =
     tie.close
     (tie.spec
     Inv-loop
     μ-loop
     (λ c. outset _ _)
-    (λ c κs. omega arith)
-    (λ c κs.
-    let given = c .before .before .before .before .pre in
-    (given .0, given .1 .subchannel, rw (c .method-for .ensures) (method-below _ _ (given .1 .method))))
+    (λ c κs. search needs)
+    (λ c κs. search needs)
     (λ c.
     let turn = c .before .before .before in
     let a = turn .before .before .before .args in
-    method-met (permits (a .permit .now) (a .parameters .subchannel)) _ _ (turn .before .loop .inv) (turn .loop-test .taken) (c .before .before .method-for .ensures) (c .before .permitted .ensures) (c .if1 .taken))
+    method-met (test (a .permit .now) (a .methods)) _ _ _ (turn .before .loop .inv) (turn .loop-test .taken) (c .before .before .method-for .ensures) (c .before .permitted .ensures) (c .if1 .taken))
     (λ c. omega arith)
     (λ c. omega arith)
     (λ c.
     let turn = c .before .before .before in
     let a = turn .before .before .before .args in
-    method-onward (permits (a .permit .now) (a .parameters .subchannel)) _ _ (turn .before .loop .inv) (turn .loop-test .taken) (c .before .before .method-for .ensures) (c .before .permitted .ensures) (c .if1 .left))
-    (λ c. none-passes _ _ _ (c .before .loop .inv) (c .loop-test .left)))
+    method-onward (test (a .permit .now) (a .methods)) _ _ _ (turn .before .loop .inv) (turn .loop-test .taken) (c .before .before .method-for .ensures) (c .before .permitted .ensures) (c .if1 .left))
+    (λ c.
+    let a = c .before .before .before .args in
+    methods-fine (test (a .permit .now) (a .methods)) _ _ _ (c .before .loop .inv) (c .loop-test .left)))

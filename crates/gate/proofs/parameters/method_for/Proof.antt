@@ -11,5 +11,7 @@ method-for-spec =
     tie.close
     (tie.spec
     (λ c. search needs)
+    (λ c. search needs)
+    (λ c. search needs)
     (λ c. sym (choose-true (c .before .if1 .taken) _ _))
     (λ c. sym (choose-false (c .if1 .left) _ _)))

@@ -1,5 +1,5 @@
 use mathlib.Core.Bool.{false≢true}
-use native.Mathlib.Omega.{arith}
+use borrow.Author.Needs.{needs}
 use borrow.Author.Tests.{leb-true}
 use Rattle.rules.proofs.Methods.{above-special}
 use Rattle.gate.proofs.parameters.none_special.Statement.{statement}
@@ -10,5 +10,6 @@ none-special-spec =
     tie.close
     (tie.spec
     (λ c e. absurd (false≢true e))
-    (λ c. omega (arith, c .before .before .before .pre .count))
-    (λ c e level. above-special _ (c .before .if1 .left) (leb-true _ _ e) level))
+    (λ c. search needs)
+    (λ c. search needs)
+    (λ c e level. above-special _ _ (c .before .if1 .left) (leb-true _ _ e) level))

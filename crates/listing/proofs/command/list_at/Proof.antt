@@ -27,6 +27,6 @@ list-at-spec =
     inside (a .setting) (a .words .now) (a .place) _ (sym (read .read-at .ensures) ∙ c .before .found .given .1))
     (λ c. search needs)
     (λ c. search needs)
-    (λ c. c .command-at .ensures ∙ found (c .before .before .before .before) (c .before .before .found .given .1))
+    (λ c. c .item-of .ensures ∙ found (c .before .before .before .before) (c .before .before .found .given .1))
     (λ c. found (c .before .before) (c .enum-told .given .1))
     (λ c. found (c .before .before .before) (c .before .found2 .given .1)))

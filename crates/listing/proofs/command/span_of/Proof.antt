@@ -1,15 +1,15 @@
 -- `span_of` meets its contract: by the forms that have a count, and what the other arm leaves. Assumes nothing.
 use borrow.Author.Needs.{needs}
 use Rattle.word.specs.Form.{increasing, nonIncreasing, long, forms}
-use Rattle.word.specs.Reading.{number, form}
-use Rattle.word.specs.Writing.{nextWord, wordsOf}
-use Rattle.listing.specs.Listing.{parameters, span}
+use Rattle.word.specs.Reading.{number, form, parameterCount}
+use Rattle.word.specs.Writing.{nextWord, ownWords}
+use Rattle.listing.specs.Listing.{span}
 use Rattle.listing.proofs.Items.{span-bare}
 use Rattle.listing.proofs.command.span_of.Statement.{statement}
 use Rattle.listing.proofs.command.span_of.Tie as tie
 
 pub span-of-spec : {M : Type 1} → statement M
-unfolding span parameters wordsOf nextWord form number forms increasing nonIncreasing long
+unfolding span parameterCount ownWords nextWord form number forms increasing nonIncreasing long
 span-of-spec =
     tie.close
     (tie.spec

@@ -1,13 +1,12 @@
 use mathlib.Core.Path.{sym, _∙_}
 use borrow.Author.Needs.{needs}
-use borrow.Author.Tests.{le-leb, lt-leb, eq-eqb, ne-eqb}
 use Rattle.word.specs.First.{choose}
-use Rattle.puller.specs.Taking.{acquireOf}
+use Rattle.puller.specs.Taking.{tried, acquireOf}
 use Rattle.puller.proofs.taking.acquire.Statement.{statement}
 use Rattle.puller.proofs.taking.acquire.Tie as tie
 
 pub acquire-spec : {M : Type 1} → statement M
-unfolding acquireOf choose
+unfolding tried acquireOf choose
 acquire-spec =
     tie.close
     (tie.spec
@@ -16,24 +15,25 @@ acquire-spec =
     (λ c. rw (c .failed .ensures, sym (c .before .before .unready .ensures) ∙ c .before .if1 .taken))
     (λ c κs. search needs)
     (λ c κs. search needs)
-    (λ c κs. search needs)
-    (λ c.
-    let two = c .before .before in
-    let one = two .before .before in
-    let ready = sym (one .before .unready .ensures) ∙ one .if1 .left in
-    rw (c .failed2 .ensures, c .before .past-end .ensures, ready, ← two .before .place .ensures, le-leb _ _ (two .if2 .taken)))
     (λ c. search needs)
+    (λ c κs. search needs)
+    (λ c κs. search needs)
+    (λ c. search needs)
+    (λ c κs. search needs)
     (λ c. search needs)
     (λ c κs. search needs)
     (λ c.
-    let two = c .before .before .before in
-    let one = two .before .before in
-    let ready = sym (one .before .unready .ensures) ∙ one .if1 .left in
-    rw (c .done .ensures, ready, ← two .before .place .ensures, lt-leb _ _ (two .if2 .left), eq-eqb _ _ (c .before .if3 .taken)))
-    (λ c κs. search needs)
+    let told = c .before .before in
+    let asked = told .before .before in
+    let one = asked .before .before in
+    rw (c .failed2 .ensures, c .before .past-end .ensures, sym (one .before .unready .ensures) ∙ one .if1 .left, ← asked .before .place .ensures, sym (asked .trial-of .ensures) ∙ told .enum-told .given .1))
     (λ c.
-    let three = c .before .before .before in
-    let two = three .before .before in
-    let one = two .before .before in
-    let ready = sym (one .before .unready .ensures) ∙ one .if1 .left in
-    rw (c .done2 .ensures, ready, ← two .before .place .ensures, lt-leb _ _ (two .if2 .left), ne-eqb _ _ (three .if3 .left))))
+    let told = c .before in
+    let asked = told .before .before in
+    let one = asked .before .before in
+    rw (c .done .ensures, sym (one .before .unready .ensures) ∙ one .if1 .left, ← asked .before .place .ensures, sym (asked .trial-of .ensures) ∙ told .enum-told2 .given .1))
+    (λ c.
+    let told = c .before .before .before in
+    let asked = told .before .before in
+    let one = asked .before .before in
+    rw (c .done2 .ensures, sym (one .before .unready .ensures) ∙ one .if1 .left, ← asked .before .place .ensures, sym (asked .trial-of .ensures) ∙ told .enum-told3 .given .1)))

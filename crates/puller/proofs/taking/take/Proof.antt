@@ -3,7 +3,7 @@ use mathlib.Core.Logic.{inl, inr, ⊎-elim}
 use native.Mathlib.Omega.{arith}
 use borrow.Author.Needs.{needs}
 use Rattle.puller.specs.Taking.{binds, refers, logs, bindsSemaphore, offsets, acquires, releases, forwards, looksAndForwards, act}
-use Rattle.puller.proofs.Deeds.{binds-at, refers-at, binds-semaphore-at, offsets-at, acquires-at, releases-at, logs-at, no-effect-at, looks-at, forwards-at, taken-by}
+use Rattle.puller.proofs.Deeds.{numbered, logs-at, no-effect-at, looks-at, forwards-at, taken-by}
 use Rattle.puller.proofs.taking.take.Statement.{statement}
 use Rattle.puller.proofs.taking.take.Tie as tie
 
@@ -23,16 +23,16 @@ take-spec =
     (λ c κs. search needs)
     (λ c κs. search needs)
     (λ c κs. search needs)
-    (λ c. taken-by binds (binds-at _ (c .before .match .keys1)) (c .bind .ensures) refl)
-    (λ c. taken-by refers (refers-at _ (c .before .match .keys2)) (c .refer .ensures) refl)
-    (λ c. taken-by bindsSemaphore (binds-semaphore-at _ (c .before .match .keys3)) (c .dma .ensures) refl)
-    (λ c. taken-by offsets (offsets-at _ (c .before .match .keys4)) (c .offset .ensures) refl)
+    (λ c. taken-by binds (numbered _ .bind (c .before .match .keys1)) (c .bind .ensures) refl)
+    (λ c. taken-by refers (numbered _ .ref (c .before .match .keys2)) (c .refer .ensures) refl)
+    (λ c. taken-by bindsSemaphore (numbered _ .dma (c .before .match .keys3)) (c .dma .ensures) refl)
+    (λ c. taken-by offsets (numbered _ .offset (c .before .match .keys4)) (c .offset .ensures) refl)
     (λ c. search needs)
-    (λ c. taken-by acquires (acquires-at _ (c .before .before .match .keys5)) (c .acquire .ensures) refl)
+    (λ c. taken-by acquires (numbered _ .acquire (c .before .before .match .keys5)) (c .acquire .ensures) refl)
     (λ c. search needs)
     (λ c.
     let release = c .before .before in
-    taken-by releases (releases-at _ (release .before .before .match .keys6)) (release .release .ensures .answer) (release .release .ensures .memory))
+    taken-by releases (numbered _ .release (release .before .before .match .keys6)) (release .release .ensures .answer) (release .release .ensures .memory))
     (λ c. taken-by logs (logs-at _ (inl (c .before .match .keys7))) (c .done .ensures) refl)
     (λ c. taken-by logs (logs-at _ (inr (omega arith, omega arith))) (c .done2 .ensures) refl)
     (λ c. taken-by looksAndForwards (looks-at _ (omega arith) (omega arith)) (c .forward-object .ensures) refl)

@@ -15,19 +15,19 @@ entry-spec =
     (tie.spec
     (λ c. search needs)
     (λ c κs. search needs)
-    (λ c ws. c .failed .ensures ∙ ap (act _ _ ws _) (sym (past-entries _ _ (c .before .if1 .taken))))
+    (λ c l. c .failed .ensures ∙ ap (act _ _ _) (sym (past-entries _ _ (c .before .if1 .taken))))
     (λ c. search needs)
     (λ c. search needs)
     (λ c κs. search needs)
     (λ c κs. search needs)
     (λ c κs. search needs)
-    (λ c ws.
+    (λ c l.
     let next = c .before .before .before .before in
     (rw (sym (next .before .entry-of .ensures), sym (next .following .ensures), choose-true (eq-eqb _ _ (c .before .if2 .taken))) (c .failed2 .ensures))
-    ∙ ap (act _ _ ws _) (sym (at-entry _ _ (next .before .before .before .if1 .left))))
+    ∙ ap (act _ _ _) (sym (at-entry _ _ (next .before .before .before .if1 .left))))
     (λ c κs. rw (c .before .before .before .before .entry-of .ensures) (address-below _, size-below _))
     (λ c κs. search needs)
-    (λ c ws.
+    (λ c l.
     let next = c .before .before .before .before .before in
     (rw (sym (next .before .entry-of .ensures), sym (next .following .ensures), choose-false (ne-eqb _ _ (c .before .before .if2 .left))) (rw (c .before .prepare .ensures) at (c .quiet .ensures)))
-    ∙ ap (act _ _ ws _) (sym (at-entry _ _ (next .before .before .before .if1 .left)))))
+    ∙ ap (act _ _ _) (sym (at-entry _ _ (next .before .before .before .if1 .left)))))

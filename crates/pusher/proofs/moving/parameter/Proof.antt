@@ -1,4 +1,3 @@
-use Prim.Native.Nat.{_*_}
 use mathlib.Core.Path.{_≡_, sym, ap, _∙_}
 use mathlib.Core.Bool.{true, false, not, _&&_}
 use mathlib.Core.Logic.{⊎-elim}
@@ -10,7 +9,7 @@ use Rattle.pusher.proofs.moving.parameter.Statement.{statement}
 use Rattle.pusher.proofs.moving.parameter.Tie as tie
 
 -- the level has the method
-present : (c : tie.Else1) → let a = c .before .before .before .before .args in not (presentOf (a .setup .setting .level .number) (4 * a .pusher .run .method)) ≡ false
+present : (c : tie.Else1) → let a = c .before .before .before .before .args in not (presentOf (a .setup .setting .level .number) (a .pusher .run .method)) ≡ false
 present c = ap not (sym (c .before .present .ensures)) ∙ c .if1 .left
 
 -- the method is discarded; or it is not, by either test of the two
@@ -25,7 +24,6 @@ unfolding parameterOf
 parameter-spec =
     tie.close
     (tie.spec
-    (λ c. search needs)
     (λ c. search needs)
     (λ c. search needs)
     (λ c κs. search needs)

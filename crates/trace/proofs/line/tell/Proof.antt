@@ -1,6 +1,7 @@
 use mathlib.Core.Path.{ap, _∙_}
 use borrow.Author.Needs.{needs}
 use Rattle.trace.specs.Line.{added}
+use Rattle.trace.proofs.Adding.{add-then}
 use Rattle.trace.proofs.Digits.{decimal-is}
 use Rattle.trace.proofs.line.tell.Statement.{statement}
 use Rattle.trace.proofs.line.tell.Tie as tie
@@ -10,9 +11,13 @@ tell-spec =
     tie.close
     (tie.spec
     (λ c κs. search needs)
+    (λ c κs. search needs)
     (λ c. search needs)
     (λ c. search needs)
     (λ c κs. search needs)
     (λ c.
-    let told = c .before .before in
-    c .say .ensures ∙ ap (added (told .before .before .args .line)) (told .decimal .ensures .1 .1 ∙ decimal-is (told .before .before .args .number) (told .decimal .result) (told .before .before .fits .number .fits) (told .decimal .ensures .1 .0))))
+    let said = c .before .before in
+    let told = said .before in
+    let start = told .before .before .before in
+    let digits = told .decimal .ensures .1 in
+    add-then _ _ _ (said .say .ensures) (c .say2 .ensures ∙ ap (added (said .say .result)) (digits .1 ∙ decimal-is (start .args .number) (told .decimal .result) (start .fits .number .fits) (digits .0)))))

@@ -2,7 +2,7 @@ use borrow.Author.Needs.{needs}
 use borrow.Author.Tests.{lt-ltb, le-ltb, eq-eqb, ne-eqb}
 use Rattle.word.specs.First.{choose, first}
 use Rattle.word.specs.Setting.{refusedOr}
-use Rattle.trace.specs.Run.{beginOf}
+use Rattle.trace.specs.LineByLine.{beginOf}
 use Rattle.trace.proofs.run.begin.Statement.{statement}
 use Rattle.trace.proofs.run.begin.Tie as tie
 

@@ -1,5 +1,5 @@
 use borrow.Author.Needs.{needs}
-use Rattle.trace.specs.Run.{byStage}
+use Rattle.trace.specs.LineByLine.{byStage}
 use Rattle.trace.proofs.Telling.{on-stage, last-line}
 use Rattle.trace.proofs.run.next_line.Statement.{statement}
 use Rattle.trace.proofs.run.next_line.Tie as tie

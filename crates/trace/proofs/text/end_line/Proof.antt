@@ -1,12 +1,12 @@
 use borrow.Author.Needs.{needs}
 use Rattle.trace.specs.Text.{text}
-use Rattle.trace.specs.Lines.{endText}
-use Rattle.trace.proofs.Adding.{line-then}
+use Rattle.trace.specs.Lines.{field, endText}
+use Rattle.trace.proofs.Adding.{add-then, whole-line}
 use Rattle.trace.proofs.text.end_line.Statement.{statement}
 use Rattle.trace.proofs.text.end_line.Tie as tie
 
 pub end-line-spec : {M : Type 1} → statement M
-unfolding text endText
+unfolding text field endText
 end-line-spec =
     tie.close
     (tie.spec
@@ -16,23 +16,16 @@ end-line-spec =
     (λ c κs. search needs)
     (λ c. search needs)
     (λ c κs. search needs)
-    (λ c κs. search needs)
     (λ c. search needs)
     (λ c κs. search needs)
-    (λ c κs. search needs)
     (λ c. search needs)
-    (λ c κs. search needs)
     (λ c κs. search needs)
     (λ c. search needs)
     (λ c κs. search needs)
     (λ c.
-    let at9 = c .before .before in
-    let at8 = at9 .before in
-    let at7 = at8 .before .before in
-    let at6 = at7 .before in
-    let at5 = at6 .before .before in
-    let at4 = at5 .before in
+    let at5 = c .before .before in
+    let at4 = at5 .before .before in
     let at3 = at4 .before .before in
-    let at2 = at3 .before in
-    let at1 = at2 .before .before in
-    line-then _ _ (line-then _ _ (line-then _ _ (line-then _ _ (line-then _ _ (line-then _ _ (line-then _ _ (line-then _ _ (line-then _ _ (at1 .empty .ensures) (at2 .say .ensures)) (at3 .end-in .ensures)) (at4 .say2 .ensures)) (at5 .tell .ensures)) (at6 .say3 .ensures)) (at7 .tell2 .ensures)) (at8 .say4 .ensures)) (at9 .tell3 .ensures)) (c .say5 .ensures)))
+    let at2 = at3 .before .before in
+    let at1 = at2 .before in
+    whole-line _ (at1 .before .before .empty .ensures) (add-then _ _ _ (add-then _ _ _ (add-then _ _ _ (add-then _ _ _ (add-then _ _ _ (at1 .say .ensures) (at2 .end-in .ensures)) (at3 .tell .ensures)) (at4 .tell2 .ensures)) (at5 .tell3 .ensures)) (c .say2 .ensures))))

@@ -1,76 +1,16 @@
+use mathlib.Core.Path.{refl}
 use borrow.Author.Needs.{needs}
-use Rattle.event.specs.Event.{number}
 use Rattle.trace.specs.Text.{text}
-use Rattle.trace.specs.Names.{kindName}
+use Rattle.trace.specs.Names.{kinds, kindName}
+use Rattle.trace.proofs.Names.{said-name}
 use Rattle.trace.proofs.text.kind_in.Statement.{statement}
 use Rattle.trace.proofs.text.kind_in.Tie as tie
 
 pub kind-in-spec : {M : Type 1} → statement M
-unfolding text kindName number
+unfolding text kinds kindName
 kind-in-spec =
     tie.close
     (tie.spec
-    (λ c. search needs)
-    (λ c. search needs)
     (λ c κs. search needs)
-    (λ c. search needs)
-    (λ c. search needs)
     (λ c κs. search needs)
-    (λ c. search needs)
-    (λ c. search needs)
-    (λ c κs. search needs)
-    (λ c. search needs)
-    (λ c. search needs)
-    (λ c κs. search needs)
-    (λ c. search needs)
-    (λ c. search needs)
-    (λ c κs. search needs)
-    (λ c. search needs)
-    (λ c. search needs)
-    (λ c κs. search needs)
-    (λ c. search needs)
-    (λ c. search needs)
-    (λ c κs. search needs)
-    (λ c. search needs)
-    (λ c. search needs)
-    (λ c κs. search needs)
-    (λ c. search needs)
-    (λ c. search needs)
-    (λ c κs. search needs)
-    (λ c. search needs)
-    (λ c. search needs)
-    (λ c κs. search needs)
-    (λ c. search needs)
-    (λ c. search needs)
-    (λ c κs. search needs)
-    (λ c. search needs)
-    (λ c. search needs)
-    (λ c κs. search needs)
-    (λ c. search needs)
-    (λ c. search needs)
-    (λ c κs. search needs)
-    (λ c. search needs)
-    (λ c. search needs)
-    (λ c κs. search needs)
-    (λ c. search needs)
-    (λ c. search needs)
-    (λ c κs. search needs)
-    (λ c. search needs)
-    (λ c. search needs)
-    (λ c κs. search needs)
-    (λ c. rw (c .before .before .enum-told .given .1) (c .say .ensures))
-    (λ c. rw (c .before .before .enum-told2 .given .1) (c .say2 .ensures))
-    (λ c. rw (c .before .before .enum-told3 .given .1) (c .say3 .ensures))
-    (λ c. rw (c .before .before .enum-told4 .given .1) (c .say4 .ensures))
-    (λ c. rw (c .before .before .enum-told5 .given .1) (c .say5 .ensures))
-    (λ c. rw (c .before .before .enum-told6 .given .1) (c .say6 .ensures))
-    (λ c. rw (c .before .before .enum-told7 .given .1) (c .say7 .ensures))
-    (λ c. rw (c .before .before .enum-told8 .given .1) (c .say8 .ensures))
-    (λ c. rw (c .before .before .enum-told9 .given .1) (c .say9 .ensures))
-    (λ c. rw (c .before .before .enum-told10 .given .1) (c .say10 .ensures))
-    (λ c. rw (c .before .before .enum-told11 .given .1) (c .say11 .ensures))
-    (λ c. rw (c .before .before .enum-told12 .given .1) (c .say12 .ensures))
-    (λ c. rw (c .before .before .enum-told13 .given .1) (c .say13 .ensures))
-    (λ c. rw (c .before .before .enum-told14 .given .1) (c .say14 .ensures))
-    (λ c. rw (c .before .before .enum-told15 .given .1) (c .say15 .ensures))
-    (λ c. rw (c .before .before .enum-told16 .given .1) (c .say16 .ensures)))
+    (λ c. said-name kinds _ _ _ refl (c .before .number .ensures) (c .name-in .ensures)))

@@ -15,5 +15,5 @@ present-spec =
     (λ c. semaphore _ _ (omega arith) (omega arith) (omega arith))
     (λ c. ordinary _ _ (omega arith))
     (λ c. absent _ _ (omega arith) (omega arith) (inl (omega arith)) (inl (omega arith)) (inl (omega arith)) (inl (omega arith)))
-    (λ c. absent _ _ (omega arith) (omega arith) (inr (omega arith)) (beside _ 0x50 (c .before .before .before .match .rest .0 .1)) (inl (omega arith)) (inl (omega arith)))
-    (λ c. absent _ _ (omega arith) (omega arith) (inr (omega arith)) (inr (omega arith)) (inr (omega arith)) (beside _ 0x80 (c .before .before .before .before .before .match .rest .1))))
+    (λ c. absent _ _ (omega arith) (omega arith) (inr (omega arith)) (beside _ 0x14 (c .before .before .before .match .rest .0 .1)) (inl (omega arith)) (inl (omega arith)))
+    (λ c. absent _ _ (omega arith) (omega arith) (inr (omega arith)) (inr (omega arith)) (inr (omega arith)) (beside _ 0x20 (c .before .before .before .before .before .match .rest .1))))

@@ -8,18 +8,18 @@ use borrow.Author.Needs.{needs}
 use borrow.Author.Tests.{lt-ltb, le-ltb}
 use Rattle.word.specs.Form.{increasing, nonIncreasing, sliConditional, returning, long, oldJump, jump, call, everythingElse, forms}
 use Rattle.word.specs.Reading.{number, form, values}
-use Rattle.word.specs.Parts.{fit}
+use Rattle.word.specs.Parts.{numbersFit}
 use Rattle.word.proofs.Tests.{beside}
 use Rattle.word.proofs.writing.fields_fit.Statement.{statement}
 use Rattle.word.proofs.writing.fields_fit.Tie as tie
 
 -- the tests of a long form's place, made together, and that of its count
-long-fit : (s m n : ℕ) (t : Bool) → t ≡ ltb s 8 && (ltb m 8192 && eqb (m % 4) 0) → fit (long .word ++ long .next) (s ∷ m ∷ n ∷ []) ≡ t && ltb n (2 ^ 24)
-unfolding fit long
+long-fit : (s m n : ℕ) (t : Bool) → t ≡ ltb s 8 && (ltb m 8192 && eqb (m % 4) 0) → numbersFit (long .word ++ long .next) (s ∷ m ∷ n ∷ []) ≡ t && ltb n (2 ^ 24)
+unfolding numbersFit long
 long-fit s m n t e = beside (ltb s 8) (ltb m 8192 && eqb (m % 4) 0) (ltb n (2 ^ 24)) t e
 
 pub fields-fit-spec : {M : Type 1} → statement M
-unfolding fit form number forms values increasing nonIncreasing sliConditional returning long oldJump jump call everythingElse
+unfolding numbersFit form number forms values increasing nonIncreasing sliConditional returning long oldJump jump call everythingElse
 fields-fit-spec =
     tie.close
     (tie.spec

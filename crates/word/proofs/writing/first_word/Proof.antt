@@ -8,7 +8,7 @@ use lib.Pow.{shl-exact}
 use borrow.Author.Needs.{needs}
 use Rattle.word.specs.Form.{increasing, nonIncreasing, sliConditional, returning, long, oldJump, jump, call, everythingElse, forms}
 use Rattle.word.specs.Reading.{number, form, values}
-use Rattle.word.specs.Parts.{fit, wordWith}
+use Rattle.word.specs.Parts.{numbersFit, wordWith}
 use Rattle.word.specs.Promises.{Within}
 use Rattle.word.specs.declared.reading.Reading.{Reading}
 use Rattle.word.proofs.Plainly.{field-plain}
@@ -16,7 +16,7 @@ use Rattle.word.proofs.writing.first_word.Statement.{statement}
 use Rattle.word.proofs.writing.first_word.Tie as tie
 
 -- what is required, of the command that the match has found
-fields : {r s : Reading} → r ≡ s → fit (form r .word ++ form r .next) (values r) ≡ true → Within s
+fields : {r s : Reading} → r ≡ s → numbersFit (form r .word ++ form r .next) (values r) ≡ true → Within s
 fields {r} {s} e f = field-plain s .0 (rw e at f)
 
 -- low bits put beside a number that has none

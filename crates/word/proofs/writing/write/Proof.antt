@@ -6,7 +6,7 @@ use borrow.Author.Needs.{needs}
 use borrow.Author.Tests.{not-true, not-false}
 use Rattle.word.specs.Setting.{checkOf}
 use Rattle.word.specs.Reading.{form, values}
-use Rattle.word.specs.Parts.{fit}
+use Rattle.word.specs.Parts.{numbersFit}
 use Rattle.word.specs.declared.setting.Check.the-variants as check
 use Rattle.word.proofs.Writer.{Past, one-word, two-words, by-setting, by-field, by-form, by-room, by-words, refused, wrote}
 use Rattle.word.proofs.writing.write.Statement.{statement}
@@ -16,7 +16,7 @@ use Rattle.word.proofs.writing.write.Tie as tie
 fine : (c : tie.After-enum-told) → checkOf (c .before .before .before .before .args .setting) ≡ check.Fine
 fine c = sym (c .before .before .check .ensures) ∙ c .enum-told .given .1
 
-fields : (c : tie.Else1) → let r = c .before .before .before .before .before .before .args .command in fit (form r .word ++ form r .next) (values r) ≡ true
+fields : (c : tie.Else1) → let r = c .before .before .before .before .before .before .args .command in numbersFit (form r .word ++ form r .next) (values r) ≡ true
 fields c = sym (c .before .fields-fit .ensures) ∙ not-false _ (c .if1 .left)
 
 past : (c : tie.Else2) → let a = c .before .before .before .before .before .before .before .before .args in Past (a .setting) (a .command)

@@ -1,0 +1,80 @@
+-- The puller keeps the widths of its numbers, and the length of the semaphore memory. Assumes nothing.
+use Prim.Native.Nat.{ℕ, zero, suc, _+_, _*_, _^_, _<_}
+use mathlib.Core.Path.{_≡_, refl, ap, _∙_}
+use mathlib.Core.List.{List, [], _∷_}
+use native.Mathlib.Omega.{arith}
+use lib.ListN.{length, getD, set, length-set}
+use Rattle.word.specs.Lent.{Words}
+use Rattle.event.specs.declared.Method.{Method}
+use Rattle.puller.specs.Loan.{PullerLoan}
+use Rattle.puller.specs.Record.{withEngine, withLast}
+use Rattle.puller.specs.Taking.{placeOf, Result}
+use Rattle.puller.specs.Promises.{Names}
+use Rattle.puller.specs.Widths.{PullerFits, KeepsWidths}
+use Rattle.puller.specs.declared.object.Object.{Object}
+use Rattle.puller.specs.declared.record.Puller.{Puller}
+use Rattle.puller.specs.declared.taking.Taken.{Taken}
+use Rattle.puller.proofs.Ways.{by-retry, After, unchanged, bound, boundLast, referred, semaphoreBound, offset, waiting, forwarded, Way, failed, done, released, goes}
+
+-- a word stored in a list leaves the others
+below-set : (l : List ℕ) (i v k j : ℕ) → v < k → getD l j 0 < k → getD (set l i v) j 0 < k
+below-set [] i v k j h e = e
+below-set (x ∷ l) zero v k zero h e = h
+below-set (x ∷ l) zero v k (suc j) h e = e
+below-set (x ∷ l) (suc i) v k zero h e = e
+below-set (x ∷ l) (suc i) v k (suc j) h e = below-set l i v k j h e
+
+-- an engine of five bits bound, and made the last
+with-engine : (p : Puller) (s e : ℕ) → PullerFits p → e < 2 ^ 5 → PullerFits (withEngine p s e)
+with-engine p s e f h =
+    record {
+      engines = λ i l. below-set (p .engines) s e (2 ^ 5) i h (f .engines i l);
+      last = f .last;
+      reference = f .reference;
+      dma = f .dma;
+      offset = f .offset;
+      value = f .value;
+    }
+
+with-last : (p : Puller) (e : ℕ) → PullerFits p → e < 2 ^ 5 → PullerFits (withLast p e)
+with-last p e f h = record { engines = f .engines; last = h; reference = f .reference; dma = f .dma; offset = f .offset; value = f .value }
+
+-- an object that a table of words describes
+module _ {t : List ℕ} {h : ℕ} {o : Object} (n : Names t h o) where
+  engine-fits : o .engine < 2 ^ 5
+  engine-fits = omega (arith, n .describes .engine)
+
+  address-fits : Words t → o .address < 2 ^ 32
+  address-fits w = rw (n .describes .address) (w (4 * n .entry + 2))
+
+-- the puller after a method
+module _ (p : Puller) (m : Method) (l : PullerLoan) (f : PullerFits p) (low : m .subchannel < 8) (word : m .parameter < 2 ^ 32) (table : Words (l .table)) where
+  after-fits : (q : Puller) → After p m (l .table) q → PullerFits q
+  after-fits q unchanged = f
+  after-fits q (bound o n) = with-engine p _ _ f (engine-fits n)
+  after-fits q (boundLast o n) = with-last (withEngine p (m .subchannel) (o .engine)) _ (with-engine p _ _ f (engine-fits n)) (engine-fits n)
+  after-fits q referred = record { engines = f .engines; last = f .last; reference = word; dma = f .dma; offset = f .offset; value = f .value }
+  after-fits q (semaphoreBound o n) =
+      record { engines = f .engines; last = f .last; reference = f .reference; dma = address-fits n table; offset = f .offset; value = f .value }
+  after-fits q (offset valid) = record { engines = f .engines; last = f .last; reference = f .reference; dma = f .dma; offset = word; value = f .value }
+  after-fits q waiting = record { engines = f .engines; last = f .last; reference = f .reference; dma = f .dma; offset = f .offset; value = word }
+  after-fits q forwarded = with-last p _ f (f .engines (m .subchannel) low)
+
+  taken-fits : (o : Result) → Way p m l o → PullerFits (o .taken .puller)
+  taken-fits o (failed e h) = after-fits _ h
+  taken-fits o (done k x h) = after-fits _ h
+  taken-fits o released = f
+
+-- a word written leaves the memory as long as it was
+same-length : {p : Puller} {m : Method} {l : PullerLoan} (o : Result) → Way p m l o → length (o .memory) ≡ length (l .semaphores)
+same-length o (failed e h) = refl
+same-length o (done k x h) = refl
+same-length {p} {m} {l} o released = length-set (l .semaphores) (placeOf p) (m .parameter)
+
+pub keeps-widths : KeepsWidths
+keeps-widths =
+    record {
+      take = λ level p m l exit r h f low word w. rw (h .answer) (taken-fits p m l f low word w _ (goes (level .number) p m l));
+      retry = λ level p sems r h f. rw h (by-retry (λ (t : Taken). PullerFits (t .puller)) (level .number) p sems f f f);
+      length = λ level p m l exit r h. ap length (h .memory) ∙ same-length _ (goes (level .number) p m l);
+    }

@@ -1,0 +1,17 @@
+use borrow.Author.Needs.{needs}
+use borrow.Author.Tests.{le-leb, lt-leb, eq-eqb, ne-eqb}
+use Rattle.word.specs.First.{choose}
+use Rattle.puller.specs.Taking.{trialOf}
+use Rattle.puller.proofs.taking.trial_of.Statement.{statement}
+use Rattle.puller.proofs.taking.trial_of.Tie as tie
+
+pub trial-of-spec : {M : Type 1} → statement M
+unfolding trialOf choose
+trial-of-spec =
+    tie.close
+    (tie.spec
+    (λ c. rw (le-leb _ _ (c .if1 .taken)))
+    (λ c. search needs)
+    (λ c. search needs)
+    (λ c. rw (lt-leb _ _ (c .before .before .if1 .left), eq-eqb _ _ (c .if2 .taken)))
+    (λ c. rw (lt-leb _ _ (c .before .before .if1 .left), ne-eqb _ _ (c .if2 .left))))

@@ -1,0 +1,70 @@
+-- How wide the numbers of a set-up and of a pusher are, in plain terms; and the promise that a move keeps them so.
+use Prim.Native.Nat.{ℕ, _%_, _^_, _≤_, _<_}
+use mathlib.Core.Path.{_≡_}
+use mathlib.Core.Bool.{true}
+use lib.ListN.{length}
+use Rattle.word.specs.Lent.{Words}
+use Rattle.pusher.specs.Loan.{PusherLoan}
+use Rattle.pusher.specs.Contracts.{Moves}
+use Rattle.pusher.specs.declared.record.Setup.{Setup}
+use Rattle.pusher.specs.declared.record.Run.{Run}
+use Rattle.pusher.specs.declared.record.Pusher.{Pusher}
+use Rattle.pusher.specs.declared.moving.Did.{Did}
+use Rattle.pusher.specs.declared.moving.Did.the-variants as did
+use Rattle.pusher.specs.declared.moving.Pushed.{Pushed}
+
+-- "a combination that 1 to 4 refuse"; "In NV04-style ib_order is held as 0, else 13"
+pub record SetUp (s : Setup) : Type 0 where
+  pub level : s .setting .level .number ≤ 5
+  pub mode : s .setting .mode .number ≤ 1
+  pub ib : s .setting .mode .number ≡ 1 → 4 ≤ s .setting .level .number
+  pub order : s .setting .mode .number ≡ 1 → s .order ≤ 12
+  pub sli : s .setting .sli ≡ true → 3 ≤ s .setting .level .number
+  pub held : s .setting .mode .number ≡ 0 → s .order ≡ 0
+  pub limit : s .limit < 2 ^ 32
+
+-- "read, put and dma_mget 32 bits in NV04-style, 40 in IB"
+pub record Narrow (s : Setup) (address : ℕ) : Type 0 where
+  pub nv04-style : s .setting .mode .number ≡ 0 → address < 2 ^ 32
+  pub ib : s .setting .mode .number ≡ 1 → address < 2 ^ 40
+
+-- "a read, put or return address not a multiple of 4"; the return address has 32 bits
+pub record Addresses (s : Setup) (get-is put-is mget-is back-is : ℕ) : Type 0 where
+  pub get : Narrow s get-is × (get-is % 4 ≡ 0)
+  pub put : Narrow s put-is × (put-is % 4 ≡ 0)
+  pub mget : Narrow s mget-is
+  pub back : (back-is < 2 ^ 32) × (back-is % 4 ≡ 0)
+
+-- "count 24 bits, ... method number 11, ... subchannel 3"
+pub record RunFits (r : Run) : Type 0 where
+  pub count : r .count < 2 ^ 24
+  pub method : r .method < 2 ^ 11
+  pub subchannel : r .subchannel < 2 ^ 3
+
+-- "ib_get and ib_put below 2^ib_order", "SLI mask 12"
+pub record PusherFields (s : Setup) (get put mget back ib-get-is ib-put-is : ℕ) (run-is : Run) (mask-is : ℕ) : Type 0 where
+  pub addresses : Addresses s get put mget back
+  pub ib-get : ib-get-is < 2 ^ s .order
+  pub ib-put : ib-put-is < 2 ^ s .order
+  pub run : RunFits run-is
+  pub mask : mask-is < 2 ^ 12
+
+-- all of that, of a pusher
+abbrev pub PusherFits : Setup → Pusher → Type 0
+PusherFits s p = PusherFields s (p .get) (p .put) (p .main .mget) (p .subroutine .back) (p .ib .get) (p .ib .put) (p .run) (p .sli .mask)
+
+-- what a move submits fits: one of the eight subchannels, a parameter of 32 bits
+abbrev pub DidFits : Did → Type 0
+DidFits (did.Event e) = Unit {0}
+DidFits (did.Submit m) = (m .subchannel < 8) × (m .parameter < 2 ^ 32)
+
+-- Of a pusher whose numbers fit, on no more words than a step takes, a move leaves one whose numbers fit.
+abbrev pub KeepsWidths : Type 0
+KeepsWidths =
+    (s : Setup) (p : Pusher) (l : PusherLoan) (r : Pushed)
+    → Moves s p l r
+    → SetUp s
+    → PusherFits s p
+    → Words (l .words)
+    → length (l .words) ≤ 1048576
+    → PusherFits s (r .pusher) × DidFits (r .did)

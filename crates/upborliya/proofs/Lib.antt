@@ -1,0 +1,3 @@
+pub mod FourParts
+pub mod GivesBack
+pub mod Promises
