@@ -47,7 +47,7 @@ bit-of w h l i a b =
     ∙ ap (λ (x : ℕ). x % 2) (shr-shr w l (i - l))
     ∙ ap (λ (k : ℕ). w / 2 ^ k % 2) place
 
--- a word that hasBits has the bits that are fixed
+-- a word that fits has the bits that are fixed
 has-bit : (ps : List Part) (w i b : ℕ) → hasBits ps w ≡ true → bitIn ps i ≡ some b → w / 2 ^ i % 2 ≡ b
 unfolding hasBits bitIn bitOf orElse choose
 has-bit [] w i b f e = let z : _≡_ {A = ℕ} 0 1 = cc in absurd (omega arith)
@@ -108,7 +108,7 @@ form-in x g (there {g = f} {fs} i) w e = go (hasBits (f .word) w) refl (λ y. fo
         absurd (false≢true (sym (no-clash 32 (f .word) (g .word) w t e) ∙ clashes f g i (y .0)))
     go false t rest = choose-false refl f (formIn fs w) ∙ rest (both (against f fs) (exclusive fs) x .1)
 
--- a word that hasBits a form of the table has that form
+-- a word that fits a form of the table has that form
 pub the-form : (f : Form) → In f forms → (w : ℕ) → hasBits (f .word) w ≡ true → formOf w ≡ f
 unfolding forms exclusive against clash differ bitIn bitOf orElse choose increasing nonIncreasing sliConditional returning long oldJump jump call
 the-form f i w e = form-in {fs = forms} refl f i w e
@@ -138,7 +138,7 @@ pub eight :
 unfolding forms
 eight P a b c d e f g h i = each P {fs = forms} (a, (b, (c, (d, (e, (f, (g, (h, tt)))))))) i
 
--- to show something of a word's form, show it of each form that the word hasBits, and of everything else
+-- to show something of a word's form, show it of each form that the word fits, and of everything else
 by-form-in : (P : Form → Type 0) (w : ℕ) (fs : List Form) → ((f : Form) → In f fs → hasBits (f .word) w ≡ true → P f) → P everythingElse → P (formIn fs w)
 unfolding formIn
 by-form-in P w [] k e = e

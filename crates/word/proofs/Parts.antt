@@ -30,7 +30,7 @@ unfoldable pub tiled : ℕ → List Part → Bool
 tiled top [] = eqb top 0
 tiled top (p ∷ ps) = eqb (hi p + 1) top && (leb (lo p) (hi p) && tiled (lo p) ps)
 
--- whether each fixed number hasBits its bits
+-- whether each fixed number fits its bits
 unfoldable pub fixed : List Part → Bool
 fixed [] = true
 fixed (is h l v ∷ ps) = ltb v (2 ^ (h + 1 - l)) && fixed ps
@@ -72,7 +72,7 @@ tile top p ps t =
       same-below = λ w v e. sym (mod-mod-pow w j (lo p)) ∙ ap (λ (n : ℕ). n % 2 ^ lo p) (rw split at e) ∙ mod-mod-pow v j (lo p);
     }
 
--- words that agree below bit `top` have the same numbers, and numbersFit alike
+-- words that agree below bit `top` have the same numbers, and fit alike
 same-parts :
     (top : ℕ) (ps : List Part)
     → tiled top ps ≡ true
@@ -180,7 +180,7 @@ as-many (carries h l ∷ ps) w = ap suc (as-many ps w)
 as-many (address h l ∷ ps) w = ap suc (as-many ps w)
 as-many (spare h l ∷ ps) w = as-many ps w
 
--- the numbers in a word numbersFit its parts, whatever follows them
+-- the numbers in a word fit its parts, whatever follows them
 pub within : (top : ℕ) (ps qs : List Part) (ns : List ℕ) → tiled top ps ≡ true → (w : ℕ) → numbersFit (ps ++ qs) (numbersIn ps w ++ ns) ≡ numbersFit qs ns
 unfolding numbersIn numbersFit
 within top [] qs ns t w = refl
@@ -193,7 +193,7 @@ within top (address h l ∷ ps) qs ns t w =
     rw (lt-ltb (bits h l w * 2 ^ l) (2 ^ (h + 1)) low, eq-eqb (bits h l w * 2 ^ l % 2 ^ l) 0 (mul-mod-left (bits h l w) (2 ^ l))) (within l ps qs ns (p .rest) w)
 within top (spare h l ∷ ps) qs ns t w = within l ps qs ns (tile top (spare h l) ps t .rest) w
 
--- numbers that numbersFit parts in a row numbersFit the first of them, and the numbers left numbersFit the others
+-- numbers that fit parts in a row fit the first of them, and the numbers left fit the others
 pub fit-apart : (ps qs : List Part) (ns : List ℕ) → numbersFit (ps ++ qs) ns ≡ true → (numbersFit ps ns ≡ true) × (numbersFit qs (drop (room ps) ns) ≡ true)
 unfolding numbersFit room
 fit-apart [] qs ns f = (refl, f)

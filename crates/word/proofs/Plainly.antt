@@ -22,7 +22,7 @@ use Rattle.word.proofs.Usable.{usable-is}
 use Rattle.word.proofs.First.{Agree}
 use Rattle.word.proofs.Tests.{both, not-plain, or-plain, and-plain, less-plain, equal-plain}
 
--- numbers that numbersFit parts, in plain terms
+-- numbers that fit parts, in plain terms
 abbrev Fit : List Part → List ℕ → Type 0
 Fit [] ns = Unit {0}
 Fit (is hi lo v ∷ ps) ns = Fit ps ns

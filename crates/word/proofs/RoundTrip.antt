@@ -92,7 +92,7 @@ empty : {l : List ℕ} → length l ≡ 0 → l ≡ []
 empty {l = []} e = refl
 empty {l = x ∷ l} e = absurd (omega arith)
 
--- a command whose numbers numbersFit
+-- a command whose numbers fit
 module _ (r : Reading) (k : number r < 9) (f : numbersFit (form r .word ++ form r .next) (values r) ≡ true) where
   -- the numbers that its first word leaves to the next
   abbrev pub left : List ℕ

@@ -93,7 +93,7 @@ everythingElse = row [] [] 0 nowhere false (λ ns. Reserved)
 unfoldable pub forms : List Form
 forms = increasing ∷ nonIncreasing ∷ sliConditional ∷ returning ∷ long ∷ oldJump ∷ jump ∷ call ∷ []
 
--- the form whose bits a word has: the first row that hasBits, and no other does (`OneForm`)
+-- the form whose bits a word has: the first row that fits, and no other does (`OneForm`)
 unfoldable pub formIn : List Form → ℕ → Form
 formIn [] w = everythingElse
 formIn (f ∷ fs) w = choose (hasBits (f .word) w) f (formIn fs w)

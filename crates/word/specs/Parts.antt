@@ -36,7 +36,7 @@ numbersIn (carries hi lo ∷ ps) w = bits hi lo w ∷ numbersIn ps w
 numbersIn (address hi lo ∷ ps) w = bits hi lo w * 2 ^ lo ∷ numbersIn ps w
 numbersIn (spare hi lo ∷ ps) w = numbersIn ps w
 
--- whether the numbers numbersFit the parts: "a number wider than its field, or an address or method not a multiple of 4"
+-- whether the numbers fit the parts: "a number wider than its field, or an address or method not a multiple of 4"
 unfoldable pub numbersFit : List Part → List ℕ → Bool
 numbersFit [] ns = true
 numbersFit (is hi lo v ∷ ps) ns = numbersFit ps ns

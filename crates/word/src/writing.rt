@@ -92,7 +92,7 @@ fn fields_fit(command: Reading) -> bool
     }
 }
 
-// Whether a subchannel and a method numbersFit their fields, and the method is a multiple of 4.
+// Whether a subchannel and a method fit their fields, and the method is a multiple of 4.
 fn place_fits(subchannel: u32, method: u32) -> bool
     ensures { λ r. ⌜ r ≡ ltb subchannel 8 && (ltb method 8192 && eqb (method % 4) 0) ⌝ }
 {
