@@ -12,10 +12,12 @@ use Rattle.pusher.specs.Moving.{pushOf}
 use Rattle.pusher.specs.declared.record.Pusher.{Pusher}
 use Rattle.pusher.specs.declared.moving.Did.{Did}
 use Rattle.pusher.specs.declared.moving.Did.the-variants as did
+use Rattle.pusher.specs.declared.moving.Pushed.{Pushed}
 use Rattle.channel.specs.Loan.{Loan}
 use Rattle.channel.specs.Stepping.{Outcome, Role, halted, retries, moves, role, act, acting, unrefused, finished, stepCases, unchanged, stepOf}
-use Rattle.channel.specs.Promises.{GoesOn, AtMostOneMove}
+use Rattle.channel.specs.Promises.{MakesMove, AtMostOneMove}
 use Rattle.channel.specs.declared.record.Channel.{Channel}
+use Rattle.channel.proofs.ByRole.{makes}
 
 -- whatever follows a move leaves its pusher
 finished-carries : (level : Level) (p : Pusher) (q : Puller) (d : Did) (l : PullerLoan) → finished level p q d l .acted .pusher ≡ p
@@ -28,13 +30,16 @@ module _ (c : Channel) (l : Loan) where
   abbrev Carries : Outcome → Type 0
   Carries o =
       (o .stepped .channel .setup ≡ c .setup)
-      × ((o .stepped .channel .pusher ≡ c .pusher) ⊎ (GoesOn c × (o .stepped .channel .pusher ≡ pushOf (c .setup) (c .pusher) (l .pusher) .pusher)))
+      × ((o .stepped .channel .pusher ≡ c .pusher) ⊎ ((x : Pushed) × MakesMove c (l .pusher) x × (o .stepped .channel .pusher ≡ x .pusher)))
 
   act-carries : (x : Role) → role (c .pusher) (c .puller) ≡ x → Carries (acting c l x)
   unfolding act
   act-carries halted e = (refl, inl refl)
   act-carries retries e = (refl, inl refl)
-  act-carries moves e = (refl, inr (e, finished-carries _ _ (c .puller) (pushOf (c .setup) (c .pusher) (l .pusher) .did) (l .puller)))
+  act-carries moves e = (
+    refl,
+    inr (pushOf (c .setup) (c .pusher) (l .pusher), makes c (l .pusher) e, finished-carries _ _ (c .puller) (pushOf (c .setup) (c .pusher) (l .pusher) .did) (l .puller)),
+  )
 
   carries : Carries (stepOf c l)
   unfolding stepOf refusedOr
@@ -45,4 +50,4 @@ module _ (c : Channel) (l : Loan) where
       go (some n) = (refl, inl refl)
 
 pub at-most-one-move : AtMostOneMove
-at-most-one-move c l exit r x m e = rw (m .answer, e) (carries c l)
+at-most-one-move c l exit r m = rw (m .answer) (carries c l)

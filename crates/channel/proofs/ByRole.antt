@@ -1,12 +1,13 @@
 -- What a step does where each of the paper's sentences applies. Assumes nothing.
 use Prim.Native.Nat.{ℕ}
-use mathlib.Core.Path.{_≡_, refl, ap, _∙_}
-use mathlib.Core.Bool.{Bool, true, false, not, _||_, or-true}
+use mathlib.Core.Path.{_≡_, refl, sym, ap, _∙_}
+use mathlib.Core.Bool.{true, false, not, or-true, false≢true}
 use mathlib.Core.List.{List}
+use mathlib.Core.Logic.{_⊎_, inl, inr, ⊎-elim, by-cases}
 use mathlib.Core.Option.{Option, none}
-use lib.Dec.{eqb}
+use native.Mathlib.Decide.{ℕ-discrete}
 use lib.ListN.{length}
-use borrow.Author.Tests.{le-ltb, eqb-true, eqb-false, not-true}
+use borrow.Author.Tests.{le-ltb, not-true}
 use Rattle.word.specs.First.{first}
 use Rattle.word.proofs.First.{fails-none}
 use Rattle.word.proofs.Settings.{told-first}
@@ -20,8 +21,8 @@ use Rattle.puller.specs.Contracts.{Takes, Retries}
 use Rattle.puller.specs.declared.taking.Taken.{Taken}
 use Rattle.puller.proofs.Causes as causes
 use Rattle.pusher.specs.Record as pusher
-use Rattle.pusher.specs.Contracts.{Moves}
-use Rattle.pusher.specs.declared.record.Pusher.{Pusher}
+use Rattle.pusher.specs.Loan.{PusherLoan}
+use Rattle.pusher.specs.Moving.{pushOf}
 use Rattle.pusher.specs.declared.moving.Did.the-variants as did
 use Rattle.pusher.specs.declared.moving.Pushed.{Pushed}
 use Rattle.pusher.proofs.Sentences as errors
@@ -30,12 +31,13 @@ use Rattle.channel.specs.Answers.{stepRefusal}
 use Rattle.channel.specs.Opening.{tableRefused}
 use Rattle.channel.specs.Stepping.{Outcome, Effect, isStopped, Role, halted, retries, moves, role, act, finished, actedOn, acting, unrefused, stepCases, unchanged, stepOf}
 use Rattle.channel.specs.Contracts.{StepsTo}
-use Rattle.channel.specs.Promises.{Takable, Running, leaving}
+use Rattle.channel.specs.Promises.{Takable, Running, MakesMove}
 use Rattle.channel.specs.declared.record.Channel.{Channel}
 use Rattle.channel.specs.declared.stepping.Stepped.{Stepped}
+use Rattle.channel.proofs.Leaving.{leaving}
 use Rattle.channel.proofs.Formed.{unformed}
 use Rattle.channel.proofs.Refusals.{accepted-is, table-plain}
-use Rattle.channel.proofs.Steps.{when-stopped, when-waiting, when-free}
+use Rattle.channel.proofs.Steps.{when-stopped, when-waiting, when-free, free}
 
 -- what a step tells
 abbrev pub step-tells : Outcome → Option ℕ
@@ -74,18 +76,39 @@ module _ (c : Channel) where
   unfolding isStopped
   running h = rw (errors.runs (c .pusher .error) (h .0), causes.runs (c .puller .error) (h .1))
 
-  standing : (Running c → ⊥) → isStopped (c .pusher) (c .puller) ≡ true
+  -- it runs, or one of the halves has an error, which stops it
+  abbrev OneFailed : Type 0
+  OneFailed = (pusher.number (c .pusher .error) ≡ 0 → ⊥) ⊎ (puller.number (c .puller .error) ≡ 0 → ⊥)
+
+  runs-or-not : Running c ⊎ OneFailed
+  runs-or-not =
+      by-cases (ℕ-discrete (pusher.number (c .pusher .error)) 0)
+      (λ a. by-cases (ℕ-discrete (puller.number (c .puller .error)) 0) (λ b. inl (a, b)) (λ b. inr (inr b)))
+      (λ a. inr (inl a))
+
+  one-stops : OneFailed → isStopped (c .pusher) (c .puller) ≡ true
   unfolding isStopped
-  standing n = go (eqb (pusher.number (c .pusher .error)) 0) (eqb (puller.number (c .puller .error)) 0) refl refl
-    where
-      go :
-          (a b : Bool)
-          → eqb (pusher.number (c .pusher .error)) 0 ≡ a
-          → eqb (puller.number (c .puller .error)) 0 ≡ b
-          → (pusher.halts (c .pusher .error) || puller.halts (c .puller .error)) ≡ true
-      go true true e f = absurd (n (eqb-true _ _ e, eqb-true _ _ f))
-      go false b e f = rw (errors.stands (c .pusher .error) (eqb-false _ _ e))
-      go true false e f = rw (causes.stands (c .puller .error) (eqb-false _ _ f), or-true)
+  one-stops h = ⊎-elim (λ n. rw (errors.stands (c .pusher .error) n)) (λ n. rw (causes.stands (c .puller .error) n, or-true)) h
+
+  standing : (Running c → ⊥) → isStopped (c .pusher) (c .puller) ≡ true
+  standing n = ⊎-elim (λ run. absurd (n run)) one-stops runs-or-not
+
+  still-running : isStopped (c .pusher) (c .puller) ≡ false → Running c
+  still-running e = ⊎-elim (λ run. run) (λ h. absurd (false≢true (sym e ∙ one-stops h))) runs-or-not
+
+  pub whether-running : Running c ⊎ (Running c → ⊥)
+  whether-running = ⊎-elim (λ run. inl run) (λ h. inr (λ run. ⊎-elim (λ n. n (run .0)) (λ n. n (run .1)) h)) runs-or-not
+
+  -- the step goes on to the pusher's move, as the definition has it,
+  abbrev pub GoesOn : Type 0
+  GoesOn = role (c .pusher) (c .puller) ≡ moves
+
+  -- exactly if it makes that move
+  pub goes-on : (l : PusherLoan) (x : Pushed) → MakesMove c l x → GoesOn
+  goes-on l x m = when-free _ _ (running (m .running)) (m .no-acquire)
+
+  pub makes : (l : PusherLoan) → GoesOn → MakesMove c l (pushOf (c .setup) (c .pusher) l)
+  makes l g = let f = free _ _ g in record { running = still-running (f .0); no-acquire = f .1; move = refl }
 
 module _ (c : Channel) (l : Loan) (exit : List ℕ) (r : Stepped) (m : StepsTo c l r exit) where
   -- what a step leaves, where its outcome is known
@@ -110,30 +133,23 @@ module _ (c : Channel) (l : Loan) (exit : List ℕ) (r : Stepped) (m : StepsTo c
     abbrev follows : Pushed → Effect
     follows x = finished (c .setup .setting .level) (x .pusher) (c .puller) (x .did) (l .puller)
 
-    moved-is :
-        (x : Pushed)
-        → Running c
-        → c .puller .acquire .active ≡ false
-        → Moves (c .setup) (c .pusher) (l .pusher) x
-        → (r ≡ actedOn c (follows x) .stepped) × (exit ≡ follows x .memory)
+    moved-is : (x : Pushed) → MakesMove c (l .pusher) x → (r ≡ actedOn c (follows x) .stepped) × (exit ≡ follows x .memory)
     unfolding act
-    moved-is x run a e = rw e (leaves (by-role c l h moves (when-free _ _ (running c run) a)))
+    moved-is x k = rw (k .move) (leaves (by-role c l h moves (goes-on c _ x k)))
 
     pub move-is :
-        (p : Pusher) (e : Event)
-        → Running c
-        → c .puller .acquire .active ≡ false
-        → Moves (c .setup) (c .pusher) (l .pusher) (record { pusher = p; did = did.Event e })
-        → (r ≡ leaving c e p (c .puller)) × (exit ≡ l .puller .semaphores)
+        (x : Pushed) (e : Event)
+        → MakesMove c (l .pusher) x
+        → x .did ≡ did.Event e
+        → (r ≡ leaving c e (x .pusher) (c .puller)) × (exit ≡ l .puller .semaphores)
     unfolding finished
-    move-is p e run a x = moved-is _ run a x
+    move-is x e k d = rw d at (moved-is x k)
 
     pub submit-is :
-        (after : List ℕ) (p : Pusher) (k : Method) (taken : Taken)
-        → Running c
-        → c .puller .acquire .active ≡ false
-        → Moves (c .setup) (c .pusher) (l .pusher) (record { pusher = p; did = did.Submit k })
-        → Takes (c .setup .setting .level) (c .puller) k (l .puller) taken after
-        → (r ≡ leaving c (taken .event) p (taken .puller)) × (exit ≡ after)
+        (after : List ℕ) (x : Pushed) (m : Method) (taken : Taken)
+        → MakesMove c (l .pusher) x
+        → x .did ≡ did.Submit m
+        → Takes (c .setup .setting .level) (c .puller) m (l .puller) taken after
+        → (r ≡ leaving c (taken .event) (x .pusher) (taken .puller)) × (exit ≡ after)
     unfolding finished
-    submit-is after p k taken run a x y = rw (y .answer, y .memory) (moved-is _ run a x)
+    submit-is after x m taken k d y = rw (y .answer, y .memory) (rw d at (moved-is x k))

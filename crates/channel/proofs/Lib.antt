@@ -1,3 +1,5 @@
+pub mod Answers
+pub mod Leaving
 pub mod Widths
 pub mod Setups
 pub mod Openings

@@ -1,5 +1,5 @@
 -- What opening answers and leaves, in plain terms. Assumes nothing.
-use Prim.Native.Nat.{ℕ, zero, suc}
+use Prim.Native.Nat.{ℕ}
 use mathlib.Core.Path.{_≡_, refl, sym, ap, _∙_}
 use mathlib.Core.Bool.{Bool, true, _&&_, false≢true}
 use mathlib.Core.List.{List, [], _∷_, _++_}
@@ -7,7 +7,6 @@ use mathlib.Core.Logic.{_↔_}
 use mathlib.Core.Option.{Option, none, some}
 use native.Mathlib.Omega.{arith}
 use lib.Dec.{eqb, ltb}
-use lib.ListN.{getD, replicate}
 use borrow.Author.Tests.{eq-eqb, ne-eqb}
 use Rattle.word.specs.First.{choose, Case, first, _when_, FirstIs}
 use Rattle.word.specs.Setting.{DUPLICATE, refusedOr}
@@ -17,12 +16,14 @@ use Rattle.word.proofs.Tests.{or-plain, and-plain, less-plain, equal-plain}
 use Rattle.word.specs.Lowest.{lowest, found?}
 use Rattle.puller.specs.Object.{entries, repeats, repeatAt, repeatOf}
 use Rattle.puller.specs.Record as puller-record
+use Rattle.puller.specs.Answers.{repeatNumber, repeatValues}
 use Rattle.puller.specs.declared.object.Repeat.{Repeat}
 use Rattle.puller.specs.declared.object.Repeat.the-variants as repeat
+use Rattle.puller.proofs.Answers.{entry-values, none-values}
 use Rattle.puller.proofs.Promises.{first-repeat}
 use Rattle.pusher.specs.Record as pusher-record
 use Rattle.pusher.specs.declared.record.Setup.{Setup}
-use Rattle.channel.specs.Answers.{openingRefusal}
+use Rattle.channel.specs.Answers.{openingRefusal, openingValues}
 use Rattle.channel.specs.Opening.{openCases, duplicateOr, openingOf, heldOrder, restingAt, freshChannel, blankChannel, opened}
 use Rattle.channel.specs.Promises.{Twice, openPlain, AtRest, Fresh, Blank}
 use Rattle.channel.specs.declared.record.Channel.{Channel}
@@ -43,8 +44,8 @@ opened-blank Open c n e = let z : _≡_ {A = ℕ} 0 1 = cc in absurd (omega arit
 opened-blank (Refused k) c n e = refl
 opened-blank (Duplicate i) c n e = refl
 
-pub opened-open : (x : Opening) (c : Channel) → openingRefusal x ≡ none → (x ≡ Open) × (opened x c .channel ≡ c)
-unfolding opened openingRefusal
+pub opened-open : (x : Opening) (c : Channel) → openingRefusal x ≡ none → (openingValues x ≡ []) × (opened x c .channel ≡ c)
+unfolding opened openingRefusal openingValues
 opened-open Open c e = (refl, refl)
 opened-open (Refused k) c e = let z : _≡_ {A = ℕ} 0 1 = cc in absurd (omega arith)
 opened-open (Duplicate i) c e = let z : _≡_ {A = ℕ} 0 1 = cc in absurd (omega arith)
@@ -69,11 +70,11 @@ module _ (t : List ℕ) where
       there : (o : Option ℕ) → lowest (repeats t) (entries t) ≡ o → found? o ≡ true → Twice t
       there none e f = absurd (false≢true f)
       there (some i) e f =
-          let h = first-repeat .entry t i (repeatOf t) refl .0 (at-entry i e) in
+          let h = first-repeat .entry t i (repeatOf t) refl .0 (entry-values i (at-entry i e)) in
           record { later = i; whole = h .0; repeated = h .1 }
 
       back : Twice t → (o : Option ℕ) → lowest (repeats t) (entries t) ≡ o → found? (lowest (repeats t) (entries t)) ≡ true
-      back x none e = absurd (first-repeat .nothing t (repeatOf t) refl .0 (at-none e) (x .later) (x .whole) (x .repeated))
+      back x none e = absurd (first-repeat .nothing t (repeatOf t) refl .0 (none-values (at-none e)) (x .later) (x .whole) (x .repeated))
       back x (some i) e = rw e
 
 -- what opening refuses, where a table has a repeated entry or none
@@ -149,17 +150,12 @@ module _ (level mode order : ℕ) (sli : Bool) (mask : ℕ) (t : List ℕ) where
       go (some n) f h = absurd (other (f ∙ sym (refusal-is n (duplicateOr (repeatOf t))) ∙ h))
 
 -- the entry that DUPLICATE answers
-pub duplicate-is : (x : Repeat) (i : ℕ) → duplicateOr x ≡ Duplicate i ↔ (x ≡ repeat.Entry i)
-unfolding duplicateOr
-duplicate-is repeat.Nothing i = (λ e. let z : _≡_ {A = ℕ} 0 1 = cc in absurd (omega arith), λ e. let z : _≡_ {A = ℕ} 0 1 = cc in absurd (omega arith))
-duplicate-is (repeat.Entry k) i = (λ e. let z : k ≡ i = cc in ap repeat.Entry z, λ e. let z : k ≡ i = cc in ap Duplicate z)
+pub duplicate-is : (x : Repeat) (i : ℕ) → openingValues (duplicateOr x) ≡ i ∷ [] ↔ ((repeatNumber x ≡ 1) × (repeatValues x ≡ i ∷ []))
+unfolding duplicateOr openingValues repeatNumber repeatValues
+duplicate-is repeat.Nothing i = (λ e. let z : _≡_ {A = ℕ} 0 1 = cc in absurd (omega arith), λ e. absurd (omega (arith, e .0)))
+duplicate-is (repeat.Entry k) i = (λ e. (refl, e), λ e. e .1)
 
 -- a channel at rest
-pub zeros : (n i : ℕ) → _≡_ {A = ℕ} (getD (replicate n 0) i 0) 0
-zeros zero i = refl
-zeros (suc n) zero = refl
-zeros (suc n) (suc i) = zeros n i
-
 at-rest : (s : Setup) (mask : ℕ) (active : Bool) → AtRest (restingAt s mask active)
 unfolding pusher-record.number puller-record.number
 at-rest s mask active =
@@ -171,7 +167,7 @@ at-rest s mask active =
       ib = refl;
       main = refl;
       pusher-error = refl;
-      engines = λ i. zeros 8 i;
+      engines = refl;
       last = refl;
       reference = refl;
       semaphore = refl;

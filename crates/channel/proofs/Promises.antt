@@ -1,14 +1,13 @@
 -- The promises about a channel, each under its name in specs/Promises.antt. Assumes nothing.
-use Prim.Native.Nat.{ℕ, _≤_, _<_}
-use mathlib.Core.Path.{_≡_, refl, sym, ap, ap₂, _∙_}
+use Prim.Native.Nat.{ℕ, _<_}
+use mathlib.Core.Path.{_≡_, refl, sym, ap, _∙_}
 use mathlib.Core.Bool.{Bool, true, false, false≢true}
-use mathlib.Core.List.{List}
-use mathlib.Core.Logic.{_⊎_, inl, inr, ⊎-elim, _↔_}
+use mathlib.Core.List.{List, [], _∷_}
+use mathlib.Core.Logic.{inl, inr, ⊎-elim, _↔_}
 use mathlib.Core.Option.{Option, none, some}
 use native.Mathlib.Omega.{arith}
-use lib.Dec.{eqb}
 use lib.ListN.{length}
-use borrow.Author.Tests.{eq-eqb, ne-eqb, eqb-true, eqb-false}
+use borrow.Author.Tests.{eq-eqb, ne-eqb}
 use Rattle.word.specs.First.{first, FirstIs}
 use Rattle.word.specs.Setting.{STATE, DUPLICATE}
 use Rattle.word.specs.Answers.{checkRefusal}
@@ -16,47 +15,53 @@ use Rattle.word.specs.declared.setting.Level.{Level}
 use Rattle.word.specs.declared.setting.Check.the-variants as check
 use Rattle.word.proofs.First.{one-outcome, choose-true, choose-false, first-is}
 use Rattle.word.proofs.Settings.{told-plain}
+use Rattle.event.specs.Event as event
+use Rattle.event.specs.Event.{values}
 use Rattle.event.specs.declared.Kind.the-variants as kind
 use Rattle.event.specs.declared.Method.{Method}
 use Rattle.event.specs.declared.Event.{Event}
 use Rattle.event.specs.declared.Event.the-variants.{Plain}
 use Rattle.puller.specs.Object.{repeatOf}
 use Rattle.puller.specs.Record as puller-record
-use Rattle.puller.specs.Taking.{takeOf, retryOf}
-use Rattle.puller.specs.declared.object.Repeat.the-variants as repeat
+use Rattle.puller.specs.Taking.{Result, takeOf, retryOf}
+use Rattle.puller.specs.Contracts.{Takes}
+use Rattle.puller.specs.Answers.{repeatNumber, repeatValues}
+use Rattle.puller.specs.declared.record.Puller.{Puller}
 use Rattle.puller.specs.declared.taking.Taken.{Taken}
 use Rattle.puller.proofs.Promises.{looks, first-repeat, pulls, retrying}
 use Rattle.puller.proofs.Failing as puller-failing
 use Rattle.pusher.specs.Record as pusher-record
 use Rattle.pusher.specs.Moving.{pushOf}
+use Rattle.pusher.specs.Answers.{methodValues, Tells}
 use Rattle.pusher.specs.Contracts.{Moves}
-use Rattle.pusher.specs.Promises.{Past}
+use Rattle.pusher.specs.Promises.{Fails}
 use Rattle.pusher.specs.declared.record.Pusher.{Pusher}
 use Rattle.pusher.specs.declared.moving.Did.{Did}
 use Rattle.pusher.specs.declared.moving.Did.the-variants as did
 use Rattle.pusher.specs.declared.moving.Pushed.{Pushed}
+use Rattle.pusher.proofs.Told.{did-event, did-submit, event-did, submit-did}
 use Rattle.pusher.proofs.Promises.{pushes}
-use Rattle.pusher.proofs.Failing as pusher-failing
+use Rattle.pusher.proofs.Failing.{failing}
 use Rattle.channel.specs.Loan.{Loan}
 use Rattle.channel.specs.State.{wellFormed}
-use Rattle.channel.specs.Answers.{openingRefusal, stepRefusal}
+use Rattle.channel.specs.Answers.{openingRefusal, openingValues, stepRefusal}
 use Rattle.channel.specs.Opening.{freshChannel, opened, openingOf, openOf}
 use Rattle.channel.specs.Record.{withPusher}
 use Rattle.channel.specs.Putting.{putCases, withPut, unchanged, putOf}
 use Rattle.channel.specs.Stepping.{Outcome, unrefused, stepCases, stepOf}
 use Rattle.channel.specs.Stepping as stepping
 use Rattle.channel.specs.Contracts.{Puts, StepsTo}
-use Rattle.channel.specs.Promises.{WellFormed, openPlain, stepPlain, putPlain, Fresh, Blank, Refused, Accepted, One, Takable, Running, Setters, leaving, Sentences, KeepsAdvance, Steps, NoOther, Later, same, put, step, Kept}
+use Rattle.channel.specs.Promises.{WellFormed, openPlain, stepPlain, putPlain, Fresh, Blank, Refused, Accepted, Lends, One, Takable, Running, MakesMove, Leaves, Sentences, Raises, PusherFails, KeepsAdvance, TakeFails, PullerFails, Steps, NoOther, Later, same, put, step, Kept}
 use Rattle.channel.specs.declared.record.Channel.{Channel}
 use Rattle.channel.specs.declared.opening.Opening.{Opening}
-use Rattle.channel.specs.declared.opening.Opening.the-variants.{Open, Duplicate}
 use Rattle.channel.specs.declared.putting.Put.{Put}
-use Rattle.channel.specs.declared.stepping.Answer.the-variants as answer
 use Rattle.channel.specs.declared.stepping.Stepped.{Stepped}
+use Rattle.channel.proofs.Leaving.{leaving, has-halves, leaves-plainly, leaves-one, refusing-is}
 use Rattle.channel.proofs.Formed.{formed, unformed}
 use Rattle.channel.proofs.Refusals.{refused-is, accepted-is, none-of, put-agree, step-agree}
 use Rattle.channel.proofs.OpensPlainly.{opened-answer, opened-blank, opened-open, open-plain, passed, duplicate-is, blank-is, fresh-is}
-use Rattle.channel.proofs.ByRole.{step-tells, leaves, stopped-is, retry-is, move-is, submit-is}
+use Rattle.channel.proofs.ByRole.{step-tells, whether-running, leaves, stopped-is, retry-is, move-is, submit-is}
+use Rattle.channel.proofs.AtMostOneMove.{at-most-one-move}
 use Rattle.channel.proofs.StaysWellFormed.{opened-formed, put-keeps, step-keeps}
 
 -- what put tells
@@ -104,18 +109,18 @@ module _ (level mode order : ℕ) (sli : Bool) (mask limit : ℕ) (t : List ℕ)
   unfolding openOf
   leaves-blank n e = rw (opened-blank asked fresh n (ap openingRefusal (sym answers) ∙ e)) blank-is
 
-  leaves-fresh : openingRefusal (openOf level mode order sli mask limit t .answer) ≡ none → (openOf level mode order sli mask limit t .answer ≡ Open) × Fresh level mode order sli mask limit (openOf level mode order sli mask limit t .channel)
+  leaves-fresh : openingRefusal (openOf level mode order sli mask limit t .answer) ≡ none → (openingValues (openOf level mode order sli mask limit t .answer) ≡ []) × Fresh level mode order sli mask limit (openOf level mode order sli mask limit t .channel)
   unfolding openOf
   leaves-fresh e =
       let x = opened-open asked fresh (ap openingRefusal (sym answers) ∙ e) in
-      (answers ∙ x .0, rw (x .1) (fresh-is level mode order sli mask limit))
+      (ap openingValues answers ∙ x .0, rw (x .1) (fresh-is level mode order sli mask limit))
 
   tells : (n : ℕ) → openingRefusal (openOf level mode order sli mask limit t .answer) ≡ some n ↔ FirstIs (openPlain level mode order sli mask t) n
   tells n = let f = open-plain level mode order sli mask t n in (λ e. f .0 (ap openingRefusal (sym answers) ∙ e), λ x. ap openingRefusal answers ∙ f .1 x)
 
-  repeats : openingRefusal (openOf level mode order sli mask limit t .answer) ≡ some DUPLICATE → (i : ℕ) → openOf level mode order sli mask limit t .answer ≡ Duplicate i ↔ (repeatOf t ≡ repeat.Entry i)
+  repeats : openingRefusal (openOf level mode order sli mask limit t .answer) ≡ some DUPLICATE → (i : ℕ) → openingValues (openOf level mode order sli mask limit t .answer) ≡ i ∷ [] ↔ ((repeatNumber (repeatOf t) ≡ 1) × (repeatValues (repeatOf t) ≡ i ∷ []))
   repeats e i =
-      let p = answers ∙ passed level mode order sli mask t (ap openingRefusal (sym answers) ∙ e) in
+      let p = ap openingValues (answers ∙ passed level mode order sli mask t (ap openingRefusal (sym answers) ∙ e)) in
       let d = duplicate-is (repeatOf t) i in
       (λ a. d .0 (sym p ∙ a), λ x. p ∙ d .1 x)
 
@@ -152,12 +157,12 @@ pub accepted : Accepted
 accepted =
     record {
       opens = λ level mode order sli mask limit t r h e. rw h (leaves-fresh level mode order sli mask limit t (rw h at e));
-      put = λ c p r h e m. h ∙ put-accepted c p (rw h at e) ∙ rw (with-nv04 c p m);
-      ib-put = λ c p r h e m. h ∙ put-accepted c p (rw h at e) ∙ rw (with-ib c p m);
+      put = λ c p r h e m. has-halves (ap (λ (y : Put). y .channel) (h ∙ put-accepted c p (rw h at e)) ∙ with-nv04 c p m);
+      ib-put = λ c p r h e m. has-halves (ap (λ (y : Put). y .channel) (h ∙ put-accepted c p (rw h at e)) ∙ with-ib c p m);
     }
 
-pub setters : Setters
-setters = record { pusher = λ c p. (refl, refl, refl); halves = λ c p q. (refl, refl, refl) }
+pub lends : Lends
+lends = record { words = λ ws es t sems. refl; entries = λ ws es t sems. refl; table = λ ws es t sems. refl; semaphores = λ ws es t sems. refl }
 
 pub one : One
 one =
@@ -168,22 +173,28 @@ one =
       idle = λ c a b x y. one-outcome x y;
     }
 
+-- what a step is and leaves in the memory, in the statements' terms
+plainly :
+    {c : Channel} {e : Event} {p : Pusher} {q : Puller} {r : Stepped} {exit memory : List ℕ}
+    → (r ≡ leaving c e p q) × (exit ≡ memory)
+    → Leaves c p q (values e) r × (exit ≡ memory)
+plainly h = (leaves-plainly (h .0), h .1)
+
 says : Sentences StepsTo
+unfolding values
 says =
     record {
-      refused = λ c l exit n r h f. leaves c l exit r h (step-refused c l n (step-plain c l n .1 f));
-      stopped = λ c l exit r h k n. stopped-is c l exit r h k n;
-      retry = λ c l exit taken r h k run a e. retry-is c l exit r h k taken run a e;
-      move = λ c l exit p e r h k run a x. move-is c l exit r h k p e run a x;
-      submit = λ c l exit after p m taken r h k run a x y. submit-is c l exit r h k after p m taken run a x y;
+      refused = λ c l exit n r h f.
+          let told = step-plain c l n .1 f in
+          let x = leaves c l exit r h (step-refused c l n told) in
+          (rw (h .answer) told, ap (λ (y : Stepped). y .channel) (x .0), x .1);
+      stopped = λ c l exit r h k n. plainly (stopped-is c l exit r h k n);
+      retry = λ c l exit taken r h k run a e. plainly (retry-is c l exit r h k taken run a e);
+      move = λ c l exit said x r h k m t.
+          let d = did-event (x .did) said t in
+          rw (sym (d .2)) (plainly (move-is c l exit r h k x (d .0) m (d .1)));
+      submit = λ c l exit after x m taken r h k makes t y. plainly (submit-is c l exit r h k after x m taken makes (did-submit (x .did) m t) y);
     }
-
--- two events of one move, and a method that is none
-event-of : {x y : Event} → did.Event x ≡ did.Event y → x ≡ y
-event-of e = cc
-
-no-event : {m : Method} {x : Event} → did.Submit m ≡ did.Event x → ⊥
-no-event e = let z : _≡_ {A = ℕ} 0 1 = cc in omega arith
 
 -- whether a channel is well-formed is settled by the test
 surely : (c : Channel) → ((WellFormed c → ⊥) → ⊥) → WellFormed c
@@ -193,87 +204,96 @@ surely c d = go (wellFormed c) refl
     go true e = formed c e
     go false e = absurd (d (λ w. false≢true (sym e ∙ unformed c w)))
 
--- errors
+-- Errors, of a channel that ran.
 module _ (c : Channel) (l : Loan) (exit : List ℕ) (r : Stepped) (h : StepsTo c l r exit) (k : Takable c l) (run : Running c) where
   abbrev level : Level
   level = c .setup .setting .level
 
-  abbrev pushed : Pushed
-  pushed = pushOf (c .setup) (c .pusher) (l .pusher)
+  -- a step that says error and leaves the memory raises it
+  raised :
+      {p : Pusher} {q : Puller} {said after : List ℕ}
+      → Leaves c p q said r × (exit ≡ after)
+      → said ≡ event.number kind.Error ∷ []
+      → after ≡ l .puller .semaphores
+      → Raises c l r exit
+  raised left e m = record { says = left .0 .says ∙ e; setup = left .0 .channel .setup; memory = left .1 ∙ m }
+
+  -- a step that leaves a pusher error made the move that left it, which says error by itself, so nothing else changes
+  pusher-fails :
+      (q : Pusher) (n : ℕ)
+      → (pusher-record.number (r .channel .pusher .error) ≡ 0 → ⊥)
+      → ((x : Pushed) → Moves (c .setup) (c .pusher) (l .pusher) x → r .channel .pusher ≡ x .pusher → Fails q n x)
+      → PusherFails c l q n r exit
+  pusher-fails q n fails moved =
+      ⊎-elim (λ stays. absurd (fails (ap (λ (p : Pusher). pusher-record.number (p .error)) stays ∙ run .0)))
+      (λ made.
+      let f = moved (made .0) (made .1 .move) (made .2) in
+      let left = says .move c l exit _ (made .0) r h k (made .1) (f .did) in
+      record { raises = raised left refl refl; pusher = rw (made .2) (f .pusher); puller = left .0 .channel .puller })
+      (at-most-one-move c l exit r h .1)
 
   abbrev retried : Taken
   retried = retryOf (level .number) (c .puller) (l .puller .semaphores)
 
-  -- a move that ends in an event, and one that submits a method
-  ended :
-      (e : Event)
-      → c .puller .acquire .active ≡ false
-      → pushed .did ≡ did.Event e
-      → (r ≡ leaving c e (pushed .pusher) (c .puller)) × (exit ≡ l .puller .semaphores)
-  ended e a d = move-is c l exit r h k (pushed .pusher) e run a (rw d)
-
-  submitted :
-      (m : Method)
-      → c .puller .acquire .active ≡ false
-      → pushed .did ≡ did.Submit m
-      → let o = takeOf (level .number) (c .puller) m (l .puller) in (r ≡ leaving c (o .taken .event) (pushed .pusher) (o .taken .puller)) × (exit ≡ o .memory)
-  submitted m a d = submit-is c l exit r h k _ (pushed .pusher) m _ run a (rw d) (record { answer = refl; memory = refl })
-
-  retried-is : c .puller .acquire .active ≡ true → (r ≡ leaving c (retried .event) (c .pusher) (retried .puller)) × (exit ≡ l .puller .semaphores)
-  retried-is a = retry-is c l exit r h k retried run a refl
-
-  -- "Errors 1 to 4 leave the read address past the word ..., all else as before."
-  module _ (q : Pusher) (past : Past (c .setup) (c .pusher) q) (some-error : 1 ≤ pusher-record.number (r .channel .pusher .error)) (of-word : pusher-record.number (r .channel .pusher .error) ≤ 4) where
-    by-move : (d : Did) → pushed .did ≡ d → c .puller .acquire .active ≡ false → (r ≡ leaving c (Plain kind.Error) (pusher-record.withError q (r .channel .pusher .error)) (c .puller)) × (exit ≡ l .puller .semaphores)
-    by-move (did.Event e) d a =
-        let x = ended e a d in
-        let p : r .channel .pusher ≡ pushed .pusher = ap (λ (y : Stepped). y .channel .pusher) (x .0) in
-        let f = pusher-failing.failing (c .setup) (c .pusher) q (l .pusher) pushed refl (run .0) (rw p at some-error) (rw p at of-word) past in
-        let says-error : e ≡ Plain kind.Error = event-of (sym d ∙ ap (λ (y : Pushed). y .did) f) in
-        let stands : pushed .pusher ≡ pusher-record.withError q (r .channel .pusher .error) = ap (λ (y : Pushed). y .pusher) f ∙ ap (λ (y : Pusher). pusher-record.withError q (y .error)) (sym p) in
-        (x .0 ∙ ap₂ (λ (y : Event) (z : Pusher). leaving c y z (c .puller)) says-error stands, x .1)
-    by-move (did.Submit m) d a =
-        let x = submitted m a d in
-        let p : r .channel .pusher ≡ pushed .pusher = ap (λ (y : Stepped). y .channel .pusher) (x .0) in
-        let f = pusher-failing.failing (c .setup) (c .pusher) q (l .pusher) pushed refl (run .0) (rw p at some-error) (rw p at of-word) past in
-        absurd (no-event (sym d ∙ ap (λ (y : Pushed). y .did) f))
-
-    word-error : (b : Bool) → c .puller .acquire .active ≡ b → (r ≡ leaving c (Plain kind.Error) (pusher-record.withError q (r .channel .pusher .error)) (c .puller)) × (exit ≡ l .puller .semaphores)
-    word-error true a =
-        let p = ap (λ (y : Stepped). pusher-record.number (y .channel .pusher .error)) (retried-is a .0) in
-        let zero = run .0 in
-        absurd (omega arith)
-    word-error false a = by-move (pushed .did) refl a
+  retried-is : c .puller .acquire .active ≡ true → Leaves c (c .pusher) (retried .puller) (values (retried .event)) r × (exit ≡ l .puller .semaphores)
+  retried-is a = says .retry c l exit retried r h k run a refl
 
   -- "Any puller error stops the channel; ... no semaphore word changes."
   module _ (fails : puller-record.number (r .channel .puller .error) ≡ 0 → ⊥) where
-    abbrev Stopped : Type 0
-    Stopped = (exit ≡ l .puller .semaphores) × (r .answer ≡ answer.Event (Plain kind.Error)) × KeepsAdvance c l (r .channel .pusher)
+    abbrev pushed : Pushed
+    pushed = pushOf (c .setup) (c .pusher) (l .pusher)
 
-    by-take : (d : Did) → pushed .did ≡ d → c .puller .acquire .active ≡ false → Stopped
-    by-take (did.Event e) d a = absurd (fails (ap (λ (y : Stepped). puller-record.number (y .channel .puller .error)) (ended e a d .0) ∙ run .1))
-    by-take (did.Submit m) d a =
-        let x = submitted m a d in
-        let o = takeOf (level .number) (c .puller) m (l .puller) in
-        let p : r .channel .puller .error ≡ o .taken .puller .error = ap (λ (y : Stepped). y .channel .puller .error) (x .0) in
-        let f = puller-failing.failing .take level (c .puller) m (l .puller) (o .memory) (o .taken) (record { answer = refl; memory = refl }) (run .1) (λ z. fails (ap puller-record.number p ∙ z)) in
-        let keeps : KeepsAdvance c l (r .channel .pusher) = record {
-          move = λ y b e. ap (λ (y : Stepped). y .channel .pusher) (x .0) ∙ ap (λ (y : Pushed). y .pusher) (sym e);
-          retry = λ b. absurd (false≢true (sym a ∙ b));
-        } in
-        (x .1 ∙ f .1, ap (λ (y : Stepped). y .answer) (x .0) ∙ ap answer.Event (f .0), keeps)
+    abbrev Stopped : Type 0
+    Stopped = Raises c l r exit × KeepsAdvance c l (r .channel .pusher) × PullerFails c l (r .channel .puller)
+
+    -- the puller that a step leaves has the error
+    its-error : {q : Puller} → r .channel .puller ≡ q → puller-record.number (q .error) ≡ 0 → ⊥
+    its-error left z = fails (ap (λ (y : Puller). puller-record.number (y .error)) left ∙ z)
+
+    -- what it took of a move, and that it failed
+    module _ (x : Pushed) (m : Method) (makes : MakesMove c (l .pusher) x) (t : Tells (x .did) 2 (methodValues m)) where
+      abbrev took : Result
+      took = takeOf (level .number) (c .puller) m (l .puller)
+
+      takes : Takes level (c .puller) m (l .puller) (took .taken) (took .memory)
+      takes = record { answer = refl; memory = refl }
+
+      left-by : Leaves c (x .pusher) (took .taken .puller) (values (took .taken .event)) r × (exit ≡ took .memory)
+      left-by = says .submit c l exit (took .memory) x m (took .taken) r h k makes t takes
+
+      failed : puller-record.number (took .taken .puller .error) ≡ 0 → ⊥
+      failed = its-error (left-by .0 .channel .puller)
+
+      take-fails : (values (took .taken .event) ≡ event.number kind.Error ∷ []) × (took .memory ≡ l .puller .semaphores)
+      take-fails = puller-failing.failing .take level (c .puller) m (l .puller) (took .memory) (took .taken) takes (run .1) failed
+
+      take-stays : TakeFails c m (r .channel .puller)
+      take-stays = rw (left-by .0 .channel .puller) (puller-failing.failing .stays level (c .puller) m (l .puller) (took .memory) (took .taken) takes (run .1) failed)
+
+    by-take : MakesMove c (l .pusher) pushed → (d : Did) → pushed .did ≡ d → Stopped
+    by-take makes (did.Event e) d =
+        let left = says .move c l exit (values e) pushed r h k makes (event-did d) in
+        absurd (its-error (left .0 .channel .puller) (run .1))
+    by-take makes (did.Submit m) d =
+        let left = left-by pushed m makes (submit-did d) in
+        let f = take-fails pushed m makes (submit-did d) in (
+          raised left (f .0) (f .1),
+          record {
+            move = λ y made. left .0 .channel .pusher ∙ ap (λ (y : Pushed). y .pusher) (sym (made .move));
+            retry = λ b. absurd (false≢true (sym (makes .no-acquire) ∙ b));
+          },
+          record { take = take-stays; retry = λ b. absurd (false≢true (sym (makes .no-acquire) ∙ b)) },
+        )
 
     take-error : (b : Bool) → c .puller .acquire .active ≡ b → Stopped
     take-error true a =
-        let x = retried-is a in
-        let p : r .channel .puller .error ≡ retried .puller .error = ap (λ (y : Stepped). y .channel .puller .error) (x .0) in
-        let f = puller-failing.failing .retry level (c .puller) (l .puller .semaphores) retried refl (run .1) (λ z. fails (ap puller-record.number p ∙ z)) in
-        let keeps : KeepsAdvance c l (r .channel .pusher) = record {
-          move = λ y b e. absurd (false≢true (sym b ∙ a));
-          retry = λ b. ap (λ (y : Stepped). y .channel .pusher) (x .0);
-        } in
-        (x .1, ap (λ (y : Stepped). y .answer) (x .0) ∙ ap (λ (y : Taken). answer.Event (y .event)) f, keeps)
-    take-error false a = by-take (pushed .did) refl a
+        let left = retried-is a in
+        let f = puller-failing.failing .retry level (c .puller) (l .puller .semaphores) retried refl (run .1) (its-error (left .0 .channel .puller)) in (
+          raised left (f .event) refl,
+          record { move = λ y made. absurd (false≢true (sym (made .no-acquire) ∙ a)); retry = λ b. left .0 .channel .pusher },
+          record { take = λ y m made t. absurd (false≢true (sym (made .no-acquire) ∙ a)); retry = λ b. rw (left .0 .channel .puller) (f .puller) },
+        )
+    take-error false a = by-take (record { running = run; no-acquire = a; move = refl }) (pushed .did) refl
 
 pub steps : Steps
 steps =
@@ -283,12 +303,19 @@ steps =
       pulls = pulls;
       retrying = retrying;
       looks = looks;
-      pusher-error = λ c l exit r h k run a b q past. word-error c l exit r h k run q past a b (c .puller .acquire .active) refl;
+      word-error = λ c l exit q r h k run a b past.
+          pusher-fails c l exit r h k run q _ (λ z. omega arith)
+          (λ x m left. rw left (failing .word (c .setup) (c .pusher) q (l .pusher) x m (run .0) (rw left at a) (rw left at b) past));
+      entry-error = λ c l exit i r h k run e rises.
+          pusher-fails c l exit r h k run _ 5 (λ z. omega arith)
+          (λ x m left. failing .entry (c .setup) (c .pusher) (l .pusher) i x m (run .0) (rw left at e) rises);
+      protection-error = λ c l exit r h k run e.
+          pusher-fails c l exit r h k run _ 6 (λ z. omega arith) (λ x m left. failing .protection (c .setup) (c .pusher) (l .pusher) x m (run .0) (rw left at e));
       puller-error = λ c l exit r h k run fails. take-error c l exit r h k run fails (c .puller .acquire .active) refl;
       retry-past-end = λ c l exit e r h k run a past.
-          let x = retried-is c l exit r h k run a in
+          let left = retried-is c l exit r h k run a in
           let f = retrying .past-end (c .setup .setting .level) (c .puller) (l .puller .semaphores) e _ refl past in
-          (x .0 ∙ ap (λ (y : Taken). leaving c (y .event) (c .pusher) (y .puller)) f, x .1);
+          (raised c l exit r h k run left (f .event) refl, left .0 .channel .pusher, rw (left .0 .channel .puller) (f .puller));
     }
 
 -- No case is left open: at each, the sentence that applies says of R and of `step` the same.
@@ -296,49 +323,54 @@ module _ (R : Channel → Loan → Stepped → List ℕ → Type 0) (s : Sentenc
   abbrev outcome : Outcome
   outcome = stepOf c l
 
-  -- what a sentence says, of whatever relation
+  -- what a sentence says, of whatever relation; no two answers are as it says
   said :
-      {x : Stepped} {y : List ℕ}
-      → ((Q : Channel → Loan → Stepped → List ℕ → Type 0) → Sentences Q → (z : Stepped) (e : List ℕ) → Q c l z e → (z ≡ x) × (e ≡ y))
+      (Says : Stepped → Type 0) {y : List ℕ}
+      → ((a b : Stepped) → Says a → Says b → a ≡ b)
+      → ((Q : Channel → Loan → Stepped → List ℕ → Type 0) → Sentences Q → (z : Stepped) (e : List ℕ) → Q c l z e → Says z × (e ≡ y))
       → StepsTo c l r exit
-  said f =
+  said Says one f =
       let a = f R s r exit m in
       let b = f StepsTo says (outcome .stepped) (outcome .memory) (record { answer = refl; memory = refl }) in
-      record { answer = one-outcome (a .0) (b .0); memory = one-outcome (a .1) (b .1) }
+      record { answer = one _ _ (a .0) (b .0); memory = one-outcome (a .1) (b .1) }
+
+  said-event :
+      {p : Pusher} {q : Puller} (e : Event) {y : List ℕ}
+      → ((Q : Channel → Loan → Stepped → List ℕ → Type 0) → Sentences Q → (z : Stepped) (x : List ℕ) → Q c l z x → Leaves c p q (values e) z × (x ≡ y))
+      → StepsTo c l r exit
+  said-event e f = said (Leaves c _ _ (values e)) (leaves-one e) f
 
   module _ (k : Takable c l) where
-    abbrev after : Pusher
-    after = pushOf (c .setup) (c .pusher) (l .pusher) .pusher
+    abbrev made : Pushed
+    made = pushOf (c .setup) (c .pusher) (l .pusher)
 
-    moves-same : Running c → c .puller .acquire .active ≡ false → (d : Did) → pushOf (c .setup) (c .pusher) (l .pusher) .did ≡ d → StepsTo c l r exit
-    moves-same run a (did.Event e) d =
-        let x : Moves (c .setup) (c .pusher) (l .pusher) (record { pusher = after; did = did.Event e }) = rw d in
-        said (λ Q q z y b. q .move c l y after e z b k run a x)
-    moves-same run a (did.Submit n) d =
-        let x : Moves (c .setup) (c .pusher) (l .pusher) (record { pusher = after; did = did.Submit n }) = rw d in
+    moves-same : MakesMove c (l .pusher) made → (d : Did) → made .did ≡ d → StepsTo c l r exit
+    moves-same x (did.Event e) d = said-event e (λ Q q z y b. q .move c l y (values e) made z b k x (event-did d))
+    moves-same x (did.Submit n) d =
         let o = takeOf (c .setup .setting .level .number) (c .puller) n (l .puller) in
-        said (λ Q q z y b. q .submit c l y (o .memory) after n (o .taken) z b k run a x (record { answer = refl; memory = refl }))
+        said-event (o .taken .event)
+        (λ Q q z y b. q .submit c l y (o .memory) made n (o .taken) z b k x (submit-did d) (record { answer = refl; memory = refl }))
 
-    takes-same :
-        (a b d : Bool)
-        → eqb (pusher-record.number (c .pusher .error)) 0 ≡ a
-        → eqb (puller-record.number (c .puller .error)) 0 ≡ b
-        → c .puller .acquire .active ≡ d
-        → StepsTo c l r exit
-    takes-same false b d e f g = said (λ Q q z y x. q .stopped c l y z x k (λ run. eqb-false _ _ e (run .0)))
-    takes-same true false d e f g = said (λ Q q z y x. q .stopped c l y z x k (λ run. eqb-false _ _ f (run .1)))
-    takes-same true true true e f g = said (λ Q q z y x. q .retry c l y _ z x k (eqb-true _ _ e, eqb-true _ _ f) g refl)
-    takes-same true true false e f g = moves-same (eqb-true _ _ e, eqb-true _ _ f) g _ refl
+    takes-same : (b : Bool) → c .puller .acquire .active ≡ b → Running c → StepsTo c l r exit
+    takes-same true a run = said-event _ (λ Q q z y x. q .retry c l y _ z x k run a refl)
+    takes-same false a run = moves-same (record { running = run; no-acquire = a; move = refl }) _ refl
+
+    stops-same : (Running c → ⊥) → StepsTo c l r exit
+    unfolding values
+    stops-same n = said-event (Plain kind.Stopped) (λ Q q z y x. q .stopped c l y z x k n)
 
   by-first : (o : Option ℕ) → first (stepCases c l) ≡ o → StepsTo c l r exit
   by-first (some n) e =
       let f = first-is (stepCases c l) (stepPlain c l) (step-agree c l) n .0 e in
-      said (λ Q q z y x. q .refused c l y n z x f)
+      said (λ z. (stepRefusal (z .answer) ≡ some n) × (z .channel ≡ c))
+      (λ a b x y. one-outcome (refusing-is c n a (x .0) (x .1)) (refusing-is c n b (y .0) (y .1)))
+      (λ Q q z y x. let t = q .refused c l y n z x f in ((t .0, t .1), t .2))
   by-first none e =
       let n = none-of (stepCases c l) (stepPlain c l) (step-agree c l) e in
       let over-words : (1048576 < length (l .pusher .words) → ⊥) = λ b. n .1 .0 (inl b) in
       let over-memory : (1048576 < length (l .puller .semaphores) → ⊥) = λ b. n .1 .0 (inr b) in
-      takes-same (record { well-formed = surely c (n .0); sizes = record { words = omega arith; semaphores = omega arith; table = n .1 .1 .0 } }) _ _ _ refl refl refl
+      let k : Takable c l = record { well-formed = surely c (n .0); sizes = record { words = omega arith; semaphores = omega arith; table = n .1 .1 .0 } } in
+      ⊎-elim (takes-same k _ refl) (stops-same k) (whether-running c)
 
 pub no-other : NoOther
 no-other R s c l exit r m = by-first R s c l exit r m _ refl

@@ -32,11 +32,10 @@ use Rattle.channel.specs.Loan.{Loan}
 use Rattle.channel.specs.Answers.{stepRefusal}
 use Rattle.channel.specs.Stepping.{Outcome, Effect, Role, halted, retries, moves, role, finished, act, actedOn, acting, stepOf}
 use Rattle.channel.specs.Contracts.{StepsTo}
-use Rattle.channel.specs.Promises.{GoesOn}
 use Rattle.channel.specs.declared.record.Channel.{Channel}
 use Rattle.channel.specs.declared.stepping.Answer.the-variants as answer
 use Rattle.channel.specs.declared.stepping.Stepped.{Stepped}
-use Rattle.channel.proofs.ByRole.{step-tells, taken}
+use Rattle.channel.proofs.ByRole.{step-tells, taken, GoesOn}
 
 -- the role of the pusher's move that alone says an event, where one does
 unfoldable pub only : Event → Option pusher.Role

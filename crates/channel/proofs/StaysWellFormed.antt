@@ -1,5 +1,5 @@
 -- Well-formed channels: those opened, and those that puts and steps leave. Assumes nothing.
-use Prim.Native.Nat.{ℕ, _%_, _^_, _≤_, _<_}
+use Prim.Native.Nat.{ℕ, zero, suc, _%_, _^_, _≤_, _<_}
 use mathlib.Core.Path.{_≡_, refl, sym, _∙_}
 use mathlib.Core.Bool.{Bool, true, false, false≢true}
 use mathlib.Core.List.{List}
@@ -7,7 +7,7 @@ use mathlib.Core.Logic.{inl, inr}
 use mathlib.Core.Option.{Option, none, some}
 use native.Mathlib.Omega.{arith}
 use lib.Dec.{eqb}
-use lib.ListN.{length}
+use lib.ListN.{length, getD, replicate}
 use lib.Pow.{pow-pos}
 use borrow.Author.Tests.{eq-eqb, ne-eqb, eqb-true, eqb-false}
 use Rattle.word.specs.First.{first}
@@ -23,7 +23,7 @@ use Rattle.pusher.specs.declared.record.Setup.{Setup}
 use Rattle.pusher.specs.declared.record.Pusher.{Pusher}
 use Rattle.pusher.specs.declared.moving.Did.{Did}
 use Rattle.pusher.specs.declared.moving.Did.the-variants as did
-use Rattle.pusher.proofs.Widths.{narrow-32}
+use Rattle.pusher.proofs.Widths.{narrow-32, submit-fits}
 use Rattle.pusher.proofs.Widths as pusher
 use Rattle.channel.specs.Loan.{Loan}
 use Rattle.channel.specs.Answers.{openingRefusal}
@@ -35,9 +35,14 @@ use Rattle.channel.specs.Promises.{WellFormed, OfWords, openPlain, putPl
 use Rattle.channel.specs.declared.record.Channel.{Channel}
 use Rattle.channel.specs.declared.opening.Opening.{Opening}
 use Rattle.channel.proofs.Refusals.{NoneOf, none-of, refused-one, put-agree, step-agree}
-use Rattle.channel.proofs.OpensPlainly.{zeros, opened-blank, opened-open, seven, open-first, open-agree}
+use Rattle.channel.proofs.OpensPlainly.{opened-blank, opened-open, seven, open-first, open-agree}
 
 -- a channel at rest
+zeros : (n i : ℕ) → _≡_ {A = ℕ} (getD (replicate n 0) i 0) 0
+zeros zero i = refl
+zeros (suc n) zero = refl
+zeros (suc n) (suc i) = zeros n i
+
 resting : (s : Setup) (mask : ℕ) (active : Bool) → SetUp s → mask < 2 ^ 12 → WellFormed (restingAt s mask active)
 resting s mask active u h =
     record {
@@ -168,10 +173,9 @@ module _ (c : Channel) (l : Loan) (w : WellFormed c) (lent : OfWords l) where
   finished-fits : (p : Pusher) (d : Did) → PusherFits (c .setup) p → DidFits d → Fits (finished (c .setup .setting .level) p (c .puller) d (l .puller))
   unfolding finished
   finished-fits p (did.Event e) f g = (f, w .puller)
-  finished-fits p (did.Submit m) f g = (
-    f,
-    puller.keeps-widths .take (c .setup .setting .level) (c .puller) m (l .puller) _ _ (record { answer = refl; memory = refl }) (w .puller) (g .0) (g .1) (lent .table),
-  )
+  finished-fits p (did.Submit m) f g =
+      let h = submit-fits m .0 g in
+      (f, puller.keeps-widths .take (c .setup .setting .level) (c .puller) m (l .puller) _ _ (record { answer = refl; memory = refl }) (w .puller) (h .0) (h .1) (lent .table))
 
   act-fits : length (l .pusher .words) ≤ 1048576 → (x : Role) → Fits (act (c .setup) (c .pusher) (c .puller) l x)
   unfolding act

@@ -1,46 +1,40 @@
 -- The promises about a channel, each a statement that is proved under its own name in proofs/. They speak of the public
 -- functions through their contracts (Contracts.antt): of everything that a contract allows.
-use Prim.Native.Nat.{ℕ, _*_, _/_, _%_, _^_, _≤_, _<_}
+use Prim.Native.Nat.{ℕ, _*_, _%_, _^_, _≤_, _<_}
 use mathlib.Core.Path.{_≡_}
 use mathlib.Core.Bool.{Bool, true, false}
 use mathlib.Core.List.{List, [], _∷_}
 use mathlib.Core.Logic.{_⊎_, _↔_}
 use mathlib.Core.Option.{none, some}
-use lib.ListN.{length}
+use lib.ListN.{length, replicate}
 use Rattle.word.specs.First.{PlainCase, _if_, FirstIs}
-use Rattle.word.specs.Setting.{LEVEL, MODE, ORDER, SLI, TABLE, DUPLICATE, PUT, SIZE, FIELD, STATE}
 use Rattle.word.specs.Answers.{checkRefusal}
 use Rattle.word.specs.Lent.{Words}
-use Rattle.word.specs.declared.setting.Check.the-variants as check
-use Rattle.event.specs.declared.Kind.{Kind}
+use Rattle.event.specs.Event as event
 use Rattle.event.specs.declared.Kind.the-variants as kind
 use Rattle.event.specs.declared.Method.{Method}
-use Rattle.event.specs.declared.Event.{Event}
-use Rattle.event.specs.declared.Event.the-variants.{Of, Plain as Saying}
 use Rattle.puller.specs.Record as puller-record
 use Rattle.puller.specs.Contracts.{Takes, Retries}
 use Rattle.puller.specs.Promises as puller
 use Rattle.puller.specs.Widths.{PullerFits}
 use Rattle.puller.specs.declared.record.Puller.{Puller}
 use Rattle.puller.specs.declared.record.PullerError.{PullerError}
+use Rattle.puller.specs.declared.record.PullerError.the-variants as puller-cause
 use Rattle.puller.specs.declared.taking.Taken.{Taken}
 use Rattle.pusher.specs.Record as pusher-record
+use Rattle.pusher.specs.Loan.{PusherLoan}
+use Rattle.pusher.specs.Answers.{methodValues, Tells}
 use Rattle.pusher.specs.Contracts.{Moves}
 use Rattle.pusher.specs.Promises as pusher
 use Rattle.pusher.specs.Widths.{SetUp, PusherFits}
 use Rattle.pusher.specs.declared.record.Pusher.{Pusher}
-use Rattle.pusher.specs.declared.moving.Did.the-variants as did
 use Rattle.pusher.specs.declared.moving.Pushed.{Pushed}
-use Rattle.channel.specs.Answers.{openingRefusal, stepRefusal}
-use Rattle.channel.specs.Loan.{Loan}
-use Rattle.channel.specs.Record.{withPusher, withHalves}
-use Rattle.channel.specs.Stepping.{moves, role}
+use Rattle.channel.specs.Answers.{openingRefusal, openingValues, stepRefusal, answerValues}
+use Rattle.channel.specs.Loan.{Loan, toStep}
 use Rattle.channel.specs.Contracts.{Opens, Puts, StepsTo, Idles}
 use Rattle.channel.specs.declared.record.Channel.{Channel}
-use Rattle.channel.specs.declared.opening.Opening.the-variants as opening
 use Rattle.channel.specs.declared.opening.Opened.{Opened}
 use Rattle.channel.specs.declared.putting.Put.{Put}
-use Rattle.channel.specs.declared.stepping.Answer.the-variants as answer
 use Rattle.channel.specs.declared.stepping.Stepped.{Stepped}
 
 -- What a well-formed channel is, in plain terms: what is asked of the halves stands with them (specs/Widths.antt of each).
@@ -49,7 +43,7 @@ pub record WellFormed (c : Channel) : Type 0 where
   pub pusher : PusherFits (c .setup) (c .pusher)
   pub puller : PullerFits (c .puller)
 
--- The conditions of the refusals, in plain terms.
+-- The conditions of the refusals, in plain terms, with their numbers in the paper's table.
 
 -- TABLE: "object table not a multiple of 4 words, or over 4,096 words"
 abbrev pub BadTable : List ℕ → Type 0
@@ -61,31 +55,31 @@ pub record Twice (t : List ℕ) : Type 0 where
   pub whole : puller.Whole t later
   pub repeated : puller.Repeated t later
 
--- "Opening: 1, 2, 3, 4, 10 (SLI mask above 4,095), 5, 6."
+-- "Opening: 1, 2, 3, 4, 10 (SLI mask above 4,095), 5, 6": LEVEL, MODE, ORDER, SLI, FIELD, TABLE, DUPLICATE
 abbrev pub openPlain : ℕ → ℕ → ℕ → Bool → ℕ → List ℕ → List PlainCase
 openPlain level mode order sli mask table =
-    LEVEL if (5 < level)
-    ∷ MODE if ((1 < mode) ⊎ ((mode ≡ 1) × (level < 4)))
-    ∷ ORDER if ((mode ≡ 1) × (12 < order))
-    ∷ SLI if ((sli ≡ true) × (level < 3))
-    ∷ FIELD if (4095 < mask)
-    ∷ TABLE if BadTable table
-    ∷ DUPLICATE if Twice table
+    1 if (5 < level)
+    ∷ 2 if ((1 < mode) ⊎ ((mode ≡ 1) × (level < 4)))
+    ∷ 3 if ((mode ≡ 1) × (12 < order))
+    ∷ 4 if ((sli ≡ true) × (level < 3))
+    ∷ 10 if (4095 < mask)
+    ∷ 5 if BadTable table
+    ∷ 6 if Twice table
     ∷ []
 
--- "Setting put: 13, 7." PUT: "NV04-style: not a multiple of 4. IB: not below 2^ib_order"
+-- "Setting put: 13, 7": STATE; PUT, "NV04-style: not a multiple of 4. IB: not below 2^ib_order"
 abbrev pub putPlain : Channel → ℕ → List PlainCase
 putPlain c n =
-    STATE if (WellFormed c → ⊥)
-    ∷ PUT if (((c .setup .setting .mode .number ≡ 1 → ⊥) × (n % 4 ≡ 0 → ⊥)) ⊎ ((c .setup .setting .mode .number ≡ 1) × (2 ^ c .setup .order ≤ n)))
+    13 if (WellFormed c → ⊥)
+    ∷ 7 if (((c .setup .setting .mode .number ≡ 1 → ⊥) × (n % 4 ≡ 0 → ⊥)) ⊎ ((c .setup .setting .mode .number ≡ 1) × (2 ^ c .setup .order ≤ n)))
     ∷ []
 
--- "Step: 13, 8, 5." SIZE: "pushbuffer or semaphore memory over 1,048,576 words"
+-- "Step: 13, 8, 5": STATE; SIZE, "pushbuffer or semaphore memory over 1,048,576 words"; TABLE
 abbrev pub stepPlain : Channel → Loan → List PlainCase
 stepPlain c l =
-    STATE if (WellFormed c → ⊥)
-    ∷ SIZE if ((1048576 < length (l .pusher .words)) ⊎ (1048576 < length (l .puller .semaphores)))
-    ∷ TABLE if BadTable (l .puller .table)
+    13 if (WellFormed c → ⊥)
+    ∷ 8 if ((1048576 < length (l .pusher .words)) ⊎ (1048576 < length (l .puller .semaphores)))
+    ∷ 5 if BadTable (l .puller .table)
     ∷ []
 
 -- "A fresh channel has every address, count and binding 0, no subroutine, and sli_active set", and no error; "the blank channel"
@@ -98,7 +92,7 @@ pub record AtRest (c : Channel) : Type 0 where
   pub ib : c .pusher .ib ≡ record { get = 0; put = 0 }
   pub main : c .pusher .main ≡ record { nonmain = false; mget = 0; valid = false }
   pub pusher-error : pusher-record.number (c .pusher .error) ≡ 0
-  pub engines : (subchannel : ℕ) → puller-record.engineOf (c .puller) subchannel ≡ 0
+  pub engines : c .puller .engines ≡ replicate 8 0
   pub last : c .puller .last ≡ 0
   pub reference : c .puller .reference ≡ 0
   pub semaphore : c .puller .semaphore ≡ record { dma = 0; offset = 0; valid = false }
@@ -152,9 +146,9 @@ pub record Refused : Type 0 where
   pub repeated :
       (level mode order : ℕ) (sli : Bool) (mask limit : ℕ) (t : List ℕ) (r : Opened)
       → Opens level mode order sli mask limit t r
-      → openingRefusal (r .answer) ≡ some DUPLICATE
+      → openingRefusal (r .answer) ≡ some 6
       → (i : ℕ)
-      → r .answer ≡ opening.Duplicate i ↔ (puller.Whole t i × puller.Repeated t i × ((j : ℕ) → j < i → puller.Repeated t j → ⊥))
+      → openingValues (r .answer) ≡ i ∷ [] ↔ (puller.Whole t i × puller.Repeated t i × ((j : ℕ) → j < i → puller.Repeated t j → ⊥))
   -- "Other refusals hand the channel back unchanged. No refusal writes lent memory."
   pub put-unchanged : (c : Channel) (p : ℕ) (r : Put) → Puts c p r → (n : ℕ) → checkRefusal (r .answer) ≡ some n → r .channel ≡ c
   pub step-unchanged :
@@ -164,26 +158,39 @@ pub record Refused : Type 0 where
       → stepRefusal (r .answer) ≡ some n
       → (r .channel ≡ c) × (exit ≡ l .puller .semaphores)
 
+-- d is the channel c with the pusher p and the puller q
+pub record Halves (c : Channel) (p : Pusher) (q : Puller) (d : Channel) : Type 0 where
+  pub setup : d .setup ≡ c .setup
+  pub pusher : d .pusher ≡ p
+  pub puller : d .puller ≡ q
+
 -- What is not refused: the fresh channel, and the channel with its put.
 pub record Accepted : Type 0 where
   pub opens :
       (level mode order : ℕ) (sli : Bool) (mask limit : ℕ) (t : List ℕ) (r : Opened)
       → Opens level mode order sli mask limit t r
       → openingRefusal (r .answer) ≡ none
-      → (r .answer ≡ opening.Open) × Fresh level mode order sli mask limit (r .channel)
+      → (openingValues (r .answer) ≡ []) × Fresh level mode order sli mask limit (r .channel)
   -- in NV04-style put, in IB mode ib_put; "Put may be set on a stopped channel; it stays stopped."
   pub put :
       (c : Channel) (p : ℕ) (r : Put)
       → Puts c p r
       → checkRefusal (r .answer) ≡ none
       → c .setup .setting .mode .number ≡ 0
-      → r ≡ record { answer = check.Fine; channel = withPusher c (pusher-record.withPut (c .pusher) p) }
+      → Halves c (pusher-record.withPut (c .pusher) p) (c .puller) (r .channel)
   pub ib-put :
       (c : Channel) (p : ℕ) (r : Put)
       → Puts c p r
       → checkRefusal (r .answer) ≡ none
       → c .setup .setting .mode .number ≡ 1
-      → r ≡ record { answer = check.Fine; channel = withPusher c (pusher-record.withIb (c .pusher) (c .pusher .ib .get) p) }
+      → Halves c (pusher-record.withIb (c .pusher) (c .pusher .ib .get) p) (c .puller) (r .channel)
+
+-- What `step` is lent, by its own arguments, is what its contract speaks of: words, IB entries, object table, semaphore words.
+pub record Lends : Type 0 where
+  pub words : (ws es t sems : List ℕ) → toStep ws es t sems .pusher .words ≡ ws
+  pub entries : (ws es t sems : List ℕ) → toStep ws es t sems .pusher .entries ≡ es
+  pub table : (ws es t sems : List ℕ) → toStep ws es t sems .puller .table ≡ t
+  pub semaphores : (ws es t sems : List ℕ) → toStep ws es t sems .puller .semaphores ≡ sems
 
 -- Each contract leaves one outcome: any two that it allows are equal.
 pub record One : Type 0 where
@@ -217,18 +224,27 @@ pub record Takable (c : Channel) (l : Loan) : Type 0 where
 abbrev pub Running : Channel → Type 0
 Running c = (pusher-record.number (c .pusher .error) ≡ 0) × (puller-record.number (c .puller .error) ≡ 0)
 
--- The setters by which the statements name a channel with another half, or with other halves, change nothing else.
-pub record Setters : Type 0 where
-  pub pusher :
-      (c : Channel) (p : Pusher)
-      → (withPusher c p .setup ≡ c .setup) × (withPusher c p .pusher ≡ p) × (withPusher c p .puller ≡ c .puller)
-  pub halves :
-      (c : Channel) (p : Pusher) (q : Puller)
-      → (withHalves c p q .setup ≡ c .setup) × (withHalves c p q .pusher ≡ p) × (withHalves c p q .puller ≡ q)
+-- a step, where it is not refused, makes the pusher's move x: nothing has stopped the channel, and no acquire is active
+pub record MakesMove (c : Channel) (l : PusherLoan) (x : Pushed) : Type 0 where
+  pub running : Running c
+  pub no-acquire : c .puller .acquire .active ≡ false
+  pub move : Moves (c .setup) (c .pusher) l x
 
--- it says e, and leaves the pusher p and the puller q
-abbrev pub leaving : Channel → Event → Pusher → Puller → Stepped
-leaving c e p q = record { answer = answer.Event e; channel = withHalves c p q }
+-- it makes a move that reads the word at the read address as a command, or as a parameter
+pub record ReadsCommand (c : Channel) (l : PusherLoan) : Type 0 where
+  pub move : Pushed
+  pub makes : MakesMove c l move
+  pub reads : pusher.ReadsCommand (c .setup) (c .pusher) l
+
+pub record ReadsParameter (c : Channel) (l : PusherLoan) : Type 0 where
+  pub move : Pushed
+  pub makes : MakesMove c l move
+  pub reads : pusher.ReadsParameter (c .setup) (c .pusher) l
+
+-- r says these values, and leaves c with the pusher p and the puller q
+pub record Leaves (c : Channel) (p : Pusher) (q : Puller) (said : List ℕ) (r : Stepped) : Type 0 where
+  pub channel : Halves c p q (r .channel)
+  pub says : answerValues (r .answer) ≡ said
 
 -- The sentences, of any relation R between what a step is given and what it leaves.
 pub record Sentences (R : Channel → Loan → Stepped → List ℕ → Type 0) : Type 0 where
@@ -237,14 +253,14 @@ pub record Sentences (R : Channel → Loan → Stepped → List ℕ → Type 0) 
       (c : Channel) (l : Loan) (exit : List ℕ) (n : ℕ) (r : Stepped)
       → R c l r exit
       → FirstIs (stepPlain c l) n
-      → (r ≡ record { answer = answer.Refused (record { number = n }); channel = c }) × (exit ≡ l .puller .semaphores)
+      → (stepRefusal (r .answer) ≡ some n) × (r .channel ≡ c) × (exit ≡ l .puller .semaphores)
   -- "1. Stopped by an error: answers stopped, nothing changes."
   pub stopped :
       (c : Channel) (l : Loan) (exit : List ℕ) (r : Stepped)
       → R c l r exit
       → Takable c l
       → (Running c → ⊥)
-      → (r ≡ leaving c (Saying kind.Stopped) (c .pusher) (c .puller)) × (exit ≡ l .puller .semaphores)
+      → Leaves c (c .pusher) (c .puller) (event.number kind.Stopped ∷ []) r × (exit ≡ l .puller .semaphores)
   -- "2. Acquire active: reads the semaphore again." The pusher stays; what the puller does is `Retrying`.
   pub retry :
       (c : Channel) (l : Loan) (exit : List ℕ) (taken : Taken) (r : Stepped)
@@ -253,32 +269,53 @@ pub record Sentences (R : Channel → Loan → Stepped → List ℕ → Type 0) 
       → Running c
       → c .puller .acquire .active ≡ true
       → Retries (c .setup .setting .level) (c .puller) (l .puller .semaphores) taken
-      → (r ≡ leaving c (taken .event) (c .pusher) (taken .puller)) × (exit ≡ l .puller .semaphores)
+      → Leaves c (c .pusher) (taken .puller) (event.values (taken .event)) r × (exit ≡ l .puller .semaphores)
   -- "3. Read address unequal to put: reads one word. 4. IB mode, ib_get unequal to ib_put: reads one entry. 5. Idle." is `Pushes`;
   -- what the pusher says by itself leaves the puller and the memory
   pub move :
-      (c : Channel) (l : Loan) (exit : List ℕ) (p : Pusher) (e : Event) (r : Stepped)
+      (c : Channel) (l : Loan) (exit said : List ℕ) (x : Pushed) (r : Stepped)
       → R c l r exit
       → Takable c l
-      → Running c
-      → c .puller .acquire .active ≡ false
-      → Moves (c .setup) (c .pusher) (l .pusher) (record { pusher = p; did = did.Event e })
-      → (r ≡ leaving c e p (c .puller)) × (exit ≡ l .puller .semaphores)
+      → MakesMove c (l .pusher) x
+      → Tells (x .did) 1 said
+      → Leaves c (x .pusher) (c .puller) said r × (exit ≡ l .puller .semaphores)
   -- "else the puller takes it in the same step", which is `Pulls`
   pub submit :
-      (c : Channel) (l : Loan) (exit after : List ℕ) (p : Pusher) (m : Method) (taken : Taken) (r : Stepped)
+      (c : Channel) (l : Loan) (exit after : List ℕ) (x : Pushed) (m : Method) (taken : Taken) (r : Stepped)
       → R c l r exit
       → Takable c l
-      → Running c
-      → c .puller .acquire .active ≡ false
-      → Moves (c .setup) (c .pusher) (l .pusher) (record { pusher = p; did = did.Submit m })
+      → MakesMove c (l .pusher) x
+      → Tells (x .did) 2 (methodValues m)
       → Takes (c .setup .setting .level) (c .puller) m (l .puller) taken after
-      → (r ≡ leaving c (taken .event) p (taken .puller)) × (exit ≡ after)
+      → Leaves c (x .pusher) (taken .puller) (event.values (taken .event)) r × (exit ≡ after)
+
+-- the step says error alone; the set-up stays, and "no semaphore word changes"
+pub record Raises (c : Channel) (l : Loan) (r : Stepped) (exit : List ℕ) : Type 0 where
+  pub says : answerValues (r .answer) ≡ event.number kind.Error ∷ []
+  pub setup : r .channel .setup ≡ c .setup
+  pub memory : exit ≡ l .puller .semaphores
+
+-- so it does, and leaves the pusher q stopped by the error n; the puller stays
+pub record PusherFails (c : Channel) (l : Loan) (q : Pusher) (n : ℕ) (r : Stepped) (exit : List ℕ) : Type 0 where
+  pub raises : Raises c l r exit
+  pub pusher : pusher.Failed q n (r .channel .pusher)
+  pub puller : r .channel .puller ≡ c .puller
 
 -- p is the pusher of c after its part of a step: its move's, or, of a retry, the one that it was
 pub record KeepsAdvance (c : Channel) (l : Loan) (p : Pusher) : Type 0 where
-  pub move : (x : Pushed) → c .puller .acquire .active ≡ false → Moves (c .setup) (c .pusher) (l .pusher) x → p ≡ x .pusher
+  pub move : (x : Pushed) → MakesMove c (l .pusher) x → p ≡ x .pusher
   pub retry : c .puller .acquire .active ≡ true → p ≡ c .pusher
+
+-- q is the puller of c that a method has stopped: all but the error stays, or, of engine 0, "the binding is stored, then
+-- EMPTY_SUBCHANNEL"
+abbrev pub TakeFails : Channel → Method → Puller → Type 0
+TakeFails c m q =
+    puller.Failed (c .puller) (q .error) q ⊎ puller.Failed (puller-record.withEngine (c .puller) (m .subchannel) 0) puller-cause.EmptySubchannel q
+
+-- q is the puller of c that its part of a step has stopped: a method that the pusher's move submits, or a retry
+pub record PullerFails (c : Channel) (l : Loan) (q : Puller) : Type 0 where
+  pub take : (x : Pushed) (m : Method) → MakesMove c (l .pusher) x → Tells (x .did) 2 (methodValues m) → TakeFails c m q
+  pub retry : c .puller .acquire .active ≡ true → puller.Failed (c .puller) (q .error) q
 
 -- the steps do what the sentences say, whole: those of the channel, of the pusher's move and of the puller;
 pub record Steps : Type 0 where
@@ -288,16 +325,32 @@ pub record Steps : Type 0 where
   pub retrying : puller.Retrying
   pub looks : puller.Looks
   -- "Errors 1 to 4 leave the read address past the word, dma_mget following it by the rule below, all else as before."
-  pub pusher-error :
-      (c : Channel) (l : Loan) (exit : List ℕ) (r : Stepped)
+  pub word-error :
+      (c : Channel) (l : Loan) (exit : List ℕ) (q : Pusher) (r : Stepped)
       → StepsTo c l r exit
       → Takable c l
       → Running c
       → 1 ≤ pusher-record.number (r .channel .pusher .error)
       → pusher-record.number (r .channel .pusher .error) ≤ 4
-      → (q : Pusher)
       → pusher.Past (c .setup) (c .pusher) q
-      → (r ≡ leaving c (Saying kind.Error) (pusher-record.withError q (r .channel .pusher .error)) (c .puller)) × (exit ≡ l .puller .semaphores)
+      → PusherFails c l q (pusher-record.number (r .channel .pusher .error)) r exit
+  -- "Size 0: error IB after that rise, nothing else changes."
+  pub entry-error :
+      (c : Channel) (l : Loan) (exit : List ℕ) (i : ℕ) (r : Stepped)
+      → StepsTo c l r exit
+      → Takable c l
+      → Running c
+      → pusher-record.number (r .channel .pusher .error) ≡ 5
+      → pusher.IndexRises (c .setup) (c .pusher) i
+      → PusherFails c l (pusher-record.withIb (c .pusher) i (c .pusher .ib .put)) 5 r exit
+  -- PROTECTION: "g stays", and "ib_get stays"
+  pub protection-error :
+      (c : Channel) (l : Loan) (exit : List ℕ) (r : Stepped)
+      → StepsTo c l r exit
+      → Takable c l
+      → Running c
+      → pusher-record.number (r .channel .pusher .error) ≡ 6
+      → PusherFails c l (c .pusher) 6 r exit
   -- "Any puller error stops the channel; the pusher keeps the advance of that step, count and method too (a retry has none and
   -- stays active); no semaphore word changes."
   pub puller-error :
@@ -306,7 +359,7 @@ pub record Steps : Type 0 where
       → Takable c l
       → Running c
       → (puller-record.number (r .channel .puller .error) ≡ 0 → ⊥)
-      → (exit ≡ l .puller .semaphores) × (r .answer ≡ answer.Event (Saying kind.Error)) × KeepsAdvance c l (r .channel .pusher)
+      → Raises c l r exit × KeepsAdvance c l (r .channel .pusher) × PullerFails c l (r .channel .puller)
   pub retry-past-end :
       (c : Channel) (l : Loan) (exit : List ℕ) (e : PullerError) (r : Stepped)
       → StepsTo c l r exit
@@ -314,7 +367,7 @@ pub record Steps : Type 0 where
       → Running c
       → c .puller .acquire .active ≡ true
       → puller.PastEnd (c .setup .setting .level) (c .puller) (l .puller .semaphores) e
-      → (r ≡ leaving c (Saying kind.Error) (c .pusher) (puller-record.withError (c .puller) e)) × (exit ≡ l .puller .semaphores)
+      → Raises c l r exit × (r .channel .pusher ≡ c .pusher) × puller.Failed (c .puller) e (r .channel .puller)
 
 -- and they leave no case open: whatever does what they say does what `step` does.
 abbrev pub NoOther : Type 1
@@ -325,62 +378,60 @@ NoOther =
     → R c l r exit
     → StepsTo c l r exit
 
--- the step goes on to the pusher's move: nothing has stopped the channel, and no acquire waits
-abbrev pub GoesOn : Channel → Type 0
-GoesOn c = role (c .pusher) (c .puller) ≡ moves
-
 -- A step is at most one move of the pusher: the puller leaves the pusher's record, and nothing changes the set-up.
 abbrev pub AtMostOneMove : Type 0
 AtMostOneMove =
-    (c : Channel) (l : Loan) (exit : List ℕ) (r : Stepped) (x : Pushed)
+    (c : Channel) (l : Loan) (exit : List ℕ) (r : Stepped)
     → StepsTo c l r exit
-    → Moves (c .setup) (c .pusher) (l .pusher) x
-    → (r .channel .setup ≡ c .setup) × ((r .channel .pusher ≡ c .pusher) ⊎ (GoesOn c × (r .channel .pusher ≡ x .pusher)))
+    → (r .channel .setup ≡ c .setup)
+    × ((r .channel .pusher ≡ c .pusher) ⊎ ((x : Pushed) × MakesMove c (l .pusher) x × (r .channel .pusher ≡ x .pusher)))
 
--- What 'read as' is by place and event. Of a step that can be taken:
+-- What 'read as' is by event. Of a step that is not refused:
 pub record ReadAs : Type 0 where
-  -- a word that is read as a command is a lent one, and the step says command or raises an error of the pusher;
+  -- one that reads a command says command, or raises an error of the pusher;
   pub command :
       (c : Channel) (l : Loan) (exit : List ℕ) (r : Stepped)
       → StepsTo c l r exit
-      → Takable c l
-      → GoesOn c
-      → pusher.ReadsCommand (c .setup) (c .pusher) (l .pusher)
-      → (c .pusher .get / 4 < length (l .pusher .words))
-      × ((r .answer ≡ answer.Event (Saying kind.Command)) ⊎ (pusher-record.number (r .channel .pusher .error) ≡ 0 → ⊥))
-  -- one that is read as a parameter is a lent one, and the step tells the method of the run under way or raises an error;
+      → stepRefusal (r .answer) ≡ none
+      → ReadsCommand c (l .pusher)
+      → (answerValues (r .answer) ≡ event.number kind.Command ∷ []) ⊎ (pusher-record.number (r .channel .pusher .error) ≡ 0 → ⊥)
+  -- one that reads a parameter tells the method of the run under way, or raises an error;
   pub parameter :
       (c : Channel) (l : Loan) (exit : List ℕ) (r : Stepped)
       → StepsTo c l r exit
-      → Takable c l
-      → GoesOn c
-      → pusher.ReadsParameter (c .setup) (c .pusher) (l .pusher)
-      → (c .pusher .get / 4 < length (l .pusher .words))
-      × ((r .answer ≡ answer.Event (Saying kind.Error))
-      ⊎ ((k : Kind) × (n : ℕ)
-      × (r .answer ≡ answer.Event (Of k (record { subchannel = c .pusher .run .subchannel; method = 4 * c .pusher .run .method; parameter = n })))))
-  -- and where it says command, or tells a method, that is how the word was read
+      → stepRefusal (r .answer) ≡ none
+      → ReadsParameter c (l .pusher)
+      → (answerValues (r .answer) ≡ event.number kind.Error ∷ [])
+      ⊎ ((k n : ℕ) × (answerValues (r .answer) ≡ k ∷ c .pusher .run .subchannel ∷ 4 * c .pusher .run .method ∷ n ∷ []))
+  -- and one that says command, or tells a method, has read a word so
   pub says-command :
       (c : Channel) (l : Loan) (exit : List ℕ) (r : Stepped)
       → StepsTo c l r exit
-      → Takable c l
-      → r .answer ≡ answer.Event (Saying kind.Command)
-      → GoesOn c × pusher.ReadsCommand (c .setup) (c .pusher) (l .pusher)
+      → answerValues (r .answer) ≡ event.number kind.Command ∷ []
+      → ReadsCommand c (l .pusher)
   pub tells-method :
-      (c : Channel) (l : Loan) (exit : List ℕ) (k : Kind) (m : Method) (r : Stepped)
+      (c : Channel) (l : Loan) (exit : List ℕ) (k b m n : ℕ) (r : Stepped)
       → StepsTo c l r exit
-      → Takable c l
-      → r .answer ≡ answer.Event (Of k m)
-      → GoesOn c × pusher.ReadsParameter (c .setup) (c .pusher) (l .pusher)
+      → answerValues (r .answer) ≡ k ∷ b ∷ m ∷ n ∷ []
+      → ReadsParameter c (l .pusher)
 
--- `idle` says what a further step would: of a step that is not refused, exactly if it says idle. No step is tried for it.
-abbrev pub Idle : Type 0
-Idle =
-    (c : Channel) (a : Bool) (l : Loan) (exit : List ℕ) (r : Stepped)
-    → Idles c a
-    → StepsTo c l r exit
-    → stepRefusal (r .answer) ≡ none
-    → a ≡ true ↔ (r .answer ≡ answer.Event (Saying kind.Idle))
+-- "5. Idle", where none of 1 to 4 applies
+pub record Resting (c : Channel) : Type 0 where
+  pub running : Running c
+  pub no-acquire : c .puller .acquire .active ≡ false
+  pub equal : c .pusher .get ≡ c .pusher .put
+  pub no-entry : (c .setup .setting .mode .number ≡ 1 → ⊥) ⊎ (c .pusher .ib .get ≡ c .pusher .ib .put)
+
+pub record Idle : Type 0 where
+  -- `idle` says so of every channel, one that is refused too;
+  pub rests : (c : Channel) (a : Bool) → Idles c a → a ≡ true ↔ Resting c
+  -- and a step that is not refused says idle exactly then. No step is tried for it.
+  pub step :
+      (c : Channel) (a : Bool) (l : Loan) (exit : List ℕ) (r : Stepped)
+      → Idles c a
+      → StepsTo c l r exit
+      → stepRefusal (r .answer) ≡ none
+      → a ≡ true ↔ (answerValues (r .answer) ≡ event.number kind.Idle ∷ [])
 
 -- what is lent are words of 32 bits; of IB entries and semaphore words no width is asked
 pub record OfWords (l : Loan) : Type 0 where
@@ -401,11 +452,11 @@ pub data Later (c : Channel) : Channel → Type 0 where
 
 pub record Kept : Type 0 where
   -- the answer is not 13 exactly if the channel is well-formed
-  pub put-state : (c : Channel) (n : ℕ) (r : Put) → Puts c n r → (checkRefusal (r .answer) ≡ some STATE → ⊥) ↔ WellFormed c
+  pub put-state : (c : Channel) (n : ℕ) (r : Put) → Puts c n r → (checkRefusal (r .answer) ≡ some 13 → ⊥) ↔ WellFormed c
   pub step-state :
       (c : Channel) (l : Loan) (exit : List ℕ) (r : Stepped)
       → StepsTo c l r exit
-      → (stepRefusal (r .answer) ≡ some STATE → ⊥) ↔ WellFormed c
+      → (stepRefusal (r .answer) ≡ some 13 → ⊥) ↔ WellFormed c
   -- opened and blank channels are
   pub opened :
       (level mode order : ℕ) (sli : Bool) (mask limit : ℕ) (t : List ℕ) (r : Opened)
@@ -420,5 +471,5 @@ pub record Kept : Type 0 where
       → limit < 2 ^ 32
       → Opens level mode order sli mask limit table r
       → Later (r .channel) d
-      → ((n : ℕ) (x : Put) → Puts d n x → checkRefusal (x .answer) ≡ some STATE → ⊥)
-      × ((l : Loan) (exit : List ℕ) (x : Stepped) → StepsTo d l x exit → stepRefusal (x .answer) ≡ some STATE → ⊥)
+      → ((n : ℕ) (x : Put) → Puts d n x → checkRefusal (x .answer) ≡ some 13 → ⊥)
+      × ((l : Loan) (exit : List ℕ) (x : Stepped) → StepsTo d l x exit → stepRefusal (x .answer) ≡ some 13 → ⊥)

@@ -5,7 +5,7 @@ use mathlib.Core.List.{List, [], _∷_}
 use native.Mathlib.Omega.{arith}
 use lib.ListN.{length, getD}
 use Rattle.event.specs.Event.{number, values}
-use Rattle.event.specs.Promises.{One, Told}
+use Rattle.event.specs.Promises.{One, Kinds, Told}
 use Rattle.event.specs.declared.Kind.{Kind}
 use Rattle.event.specs.declared.Kind.the-variants as kind
 use Rattle.event.specs.declared.Method.{Method}
@@ -13,6 +13,10 @@ use Rattle.event.specs.declared.Event.the-variants.{Plain, Of}
 
 pub one : One
 one k a b x y = x ∙ sym y
+
+pub kinds : Kinds
+unfolding number
+kinds = refl
 
 -- the kind with a number, so that two kinds with one number are one kind
 kindOf : ℕ → Kind
@@ -42,7 +46,7 @@ kind-of kind.Idle = refl
 kind-of kind.Stopped = refl
 
 -- the number at a place of two lists that are equal
-at : (i : ℕ) {l m : List ℕ} → l ≡ m → getD l i 0 ≡ getD m i 0
+pub at : (i : ℕ) {l m : List ℕ} → l ≡ m → getD l i 0 ≡ getD m i 0
 at i e = ap (λ (l : List ℕ). getD l i 0) e
 
 same-kind : (j k : Kind) → number j ≡ number k → j ≡ k

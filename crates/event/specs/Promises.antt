@@ -1,14 +1,24 @@
 -- The promises about kinds and events, each proved under its own name in proofs/.
 use Prim.Native.Nat.{ℕ}
 use mathlib.Core.Path.{_≡_}
-use Rattle.event.specs.Event.{values}
+use mathlib.Core.List.{[], _∷_, map}
+use Rattle.event.specs.Event.{number, values}
 use Rattle.event.specs.Contracts.{Numbers}
 use Rattle.event.specs.declared.Kind.{Kind}
+use Rattle.event.specs.declared.Kind.the-variants as kind
 use Rattle.event.specs.declared.Event.{Event}
 
 -- The contract leaves one outcome.
 abbrev pub One : Type 0
 One = (k : Kind) (a b : ℕ) → Numbers k a → Numbers k b → a ≡ b
+
+-- "`kind` is command, count, bind, ref, event, dma, offset, acquire, release, wait, forward or error, in the library also
+-- entry, discard, idle and stopped": a kind's number is its place in that list.
+abbrev pub Kinds : Type 0
+Kinds =
+    map number
+    (kind.Command ∷ kind.Count ∷ kind.Bind ∷ kind.Ref ∷ kind.Event ∷ kind.Dma ∷ kind.Offset ∷ kind.Acquire ∷ kind.Release ∷ kind.Wait ∷ kind.Forward ∷ kind.Error ∷ kind.Entry ∷ kind.Discard ∷ kind.Idle ∷ kind.Stopped ∷ [])
+    ≡ 1 ∷ 2 ∷ 3 ∷ 4 ∷ 5 ∷ 6 ∷ 7 ∷ 8 ∷ 9 ∷ 10 ∷ 11 ∷ 12 ∷ 13 ∷ 14 ∷ 15 ∷ 16 ∷ []
 
 -- An event is told by its numbers: what a promise says of an event, it says of them.
 abbrev pub Told : Type 0

@@ -22,16 +22,17 @@ use Rattle.word.specs.declared.setting.Check.the-variants.{Fine}
 use Rattle.word.specs.declared.reading.Reading.{Reading}
 use Rattle.word.specs.declared.reading.Reading.the-variants as reads
 use Rattle.word.proofs.First.{by-test, choose-true, choose-false, one-outcome, append-none}
-use Rattle.word.proofs.Settings.{accepted, told-first, told-plain, passed-by, miss, no-more}
-use Rattle.word.proofs.Plainly.{form-plain, size-is, setting-agree, size-agree}
+use Rattle.word.proofs.Settings.{accepted, told-first, told-plain, none-fine, passed-by, miss, no-more}
+use Rattle.word.proofs.Plainly.{form-plain, size-is, setting-agree, none-plain, size-agree}
 use Rattle.word.proofs.Promises.{passed as written-passed, is-command, read-back}
 use Rattle.listing.specs.Listing.{span, endsAt, itemOf, listOf}
-use Rattle.listing.specs.Answers.{number, itemRefusal}
+use Rattle.listing.specs.Answers.{number, values, itemRefusal}
 use Rattle.listing.specs.Contracts.{ListsAt, movedTo}
-use Rattle.listing.specs.Promises.{Refused, One, Stays, Items, Made, nothing, more, InTurn, over, on, GivesBack}
+use Rattle.listing.specs.Promises.{Refused, One, New, IsCommand, Stays, Items, Next, Made, nothing, more, InTurn, over, on, GivesBack}
 use Rattle.listing.specs.declared.command.Item.{Item}
 use Rattle.listing.specs.declared.command.Item.the-variants as item
 use Rattle.listing.specs.declared.command.Listed.{Listed}
+use Rattle.listing.specs.declared.listing.Listing.{Listing}
 use Rattle.listing.proofs.Items.{refusals, word, here}
 
 -- a command's words are its own and its parameters
@@ -95,6 +96,9 @@ one =
       next = λ s l a b x y c d. (one-outcome (c .item) (d .item), one-outcome (c .reader) (d .reader));
     }
 
+pub new : New
+new words l b = (ap (λ (x : Listing). x .words) b, ap (λ (x : Listing). x .place) b)
+
 pub stays : Stays
 stays s l a exit g h = g .reader ∙ ap (movedTo l) (stays-at s (now (l .words)) (l .place) (subst (λ (x : Item). 2 ≤ number x) (g .item) h))
 
@@ -108,14 +112,15 @@ not-past r n p = by-test Not (λ t d. omega arith) (λ t. by-test Not (λ t d. o
 
 -- an item that is no refusal: past the last word, and only there,
 module _ (s : Setting) (ws : List ℕ) (p : ℕ) (a : Listed) (c : ListsAt s ws p a) (e : itemRefusal (a .item) ≡ none) where
-  at-end : a .item ≡ item.Past → length ws ≤ p
+  at-end : number (a .item) ≡ 2 → length ws ≤ p
   unfolding number
   at-end d =
       by-test (λ (x : Listed). number (x .item) ≡ 2 → length ws ≤ p) (λ t k. leb-true _ _ t) (λ t k. absurd (not-past (word s ws p) (length ws) p k))
-      (ap (λ (x : Listed). number (x .item)) (sym (accepts s ws p a c e)) ∙ ap number d)
+      (ap (λ (x : Listed). number (x .item)) (sym (accepts s ws p a c e)) ∙ d)
 
-  past-end : length ws ≤ p → a .item ≡ item.Past
-  past-end h = ap (λ (x : Listed). x .item) (accepts s ws p a c e ∙ choose-true (le-leb _ _ h) _ _)
+  past-end : length ws ≤ p → number (a .item) ≡ 2
+  unfolding number
+  past-end h = ap (λ (x : Listed). number (x .item)) (accepts s ws p a c e ∙ choose-true (le-leb _ _ h) _ _)
 
   -- and before it the item that the reading there is
   module _ (r : Reading) (h : p < length ws) (d : Reads s (getD ws p 0) (getD ws (p + 1) 0) r) where
@@ -126,38 +131,38 @@ module _ (s : Setting) (ws : List ℕ) (p : ℕ) (a : Listed) (c : ListsAt s ws 
         ∙ ap (λ (x : Reading). itemOf x (length ws) p)
         (sym (d ∙ accepted reads.Refused _ (append-none (settingCases s) (sizeCases (length ws)) (passed s ws p a c e) .0)))
 
-    reserved-only : a .item ≡ item.Reserved → reading.number r ≡ 9
+    reserved-only : number (a .item) ≡ 3 → reading.number r ≡ 9
     unfolding itemOf number
     reserved-only k =
         by-test Only (λ t i. eqb-true _ _ t) (λ t. by-test Only (λ t i. absurd (omega arith)) (λ t i. absurd (omega arith)))
-        (ap (λ (x : Listed). number (x .item)) (sym at-word) ∙ ap number k)
+        (ap (λ (x : Listed). number (x .item)) (sym at-word) ∙ k)
       where
         Only : Listed → Type 0
         Only x = number (x .item) ≡ 3 → reading.number r ≡ 9
 
-    reserved-there : reading.number r ≡ 9 → a .item ≡ item.Reserved
-    unfolding itemOf
-    reserved-there k = ap (λ (x : Listed). x .item) (at-word ∙ choose-true (eq-eqb _ _ k) _ _)
+    reserved-there : reading.number r ≡ 9 → number (a .item) ≡ 3
+    unfolding itemOf number
+    reserved-there k = ap (λ (x : Listed). number (x .item)) (at-word ∙ choose-true (eq-eqb _ _ k) _ _)
 
     module _ (k : reading.number r ≤ 8) where
       other : reading.number r ≡ 9 → ⊥
       other q = omega arith
 
-      runs-short : length ws < p + size r + parameterCount r → a .item ≡ item.Short
-      unfolding itemOf
-      runs-short l =
-          let all = span-is r in
-          let short : length ws < p + span r = omega arith in
-          ap (λ (x : Listed). x .item) (at-word ∙ choose-false (ne-eqb _ _ other) _ _ ∙ choose-true (lt-ltb _ _ short) _ _)
-
-      commands : p + size r + parameterCount r ≤ length ws → (a .item ≡ item.Command r) × (a .place ≡ p + size r + parameterCount r)
-      unfolding itemOf
+      commands : p + size r + parameterCount r ≤ length ws → IsCommand r (a .item) × (a .place ≡ p + size r + parameterCount r)
+      unfolding itemOf number values
       commands l =
           let all = span-is r in
           let whole : p + span r ≤ length ws = omega arith in
           let there : a ≡ record { item = item.Command r; place = p + span r } = at-word ∙ choose-false (ne-eqb _ _ other) _ _ ∙ choose-false (le-ltb _ _ whole) _ _ in
           let after : p + span r ≡ p + size r + parameterCount r = omega arith in
-          (ap (λ (x : Listed). x .item) there, ap (λ (x : Listed). x .place) there ∙ after)
+          ((ap (λ (x : Listed). number (x .item)) there, ap (λ (x : Listed). values (x .item)) there), ap (λ (x : Listed). x .place) there ∙ after)
+
+      runs-short : length ws < p + size r + parameterCount r → number (a .item) ≡ 4
+      unfolding itemOf number
+      runs-short l =
+          let all = span-is r in
+          let short : length ws < p + span r = omega arith in
+          ap (λ (x : Listed). number (x .item)) (at-word ∙ choose-false (ne-eqb _ _ other) _ _ ∙ choose-true (lt-ltb _ _ short) _ _)
 
 pub items : Items
 items =
@@ -167,6 +172,11 @@ items =
       short = λ s ws p a r c e h d. runs-short s ws p a c e r h d;
       command = λ s ws p a r c e h d. commands s ws p a c e r h d;
     }
+
+pub next : Next
+next s l a exit x g e =
+    let same : a ≡ x .item = one-outcome (g .item) (ap (λ (y : Listed). y .item) e) in
+    (ap number same, ap values same, ap (λ (y : Listing). y .words) (g .reader), ap (λ (y : Listing). y .place) (g .reader) ∙ ap (λ (y : Listed). y .place) (sym e))
 
 -- a command has a word
 a-word : (r : Reading) → 1 ≤ size r
@@ -210,4 +220,4 @@ module _ (s : Setting) (fine : checkOf s ≡ Fine) (ws : List ℕ) (few : length
       on p r rs (listOf s ws p) refl (listed .0) (subst (λ (k : ℕ). InTurn s ws k rs) place (from-here (front ++ (own ++ ps)) m again))
 
 pub gives-back : GivesBack
-gives-back s rs ws fine few m = from-here s (sym fine) ws few [] m refl
+gives-back s rs ws fine few m = from-here s (none-fine s (none-plain s .1 fine)) ws few [] m refl

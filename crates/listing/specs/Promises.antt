@@ -6,20 +6,18 @@ use mathlib.Core.Logic.{_↔_}
 use mathlib.Core.Option.{none, some}
 use lib.ListN.{length, getD}
 use denote.Ref.{RefT, now}
-use Rattle.word.specs.First.{FirstIs}
+use Rattle.word.specs.First.{FirstIs, SomeHolds}
 use Rattle.word.specs.Answers.{writtenRefusal}
-use Rattle.word.specs.Contracts.{Checks, Reads, Writes}
+use Rattle.word.specs.Contracts.{Reads, Writes}
 use Rattle.word.specs.Promises.{settingPlain, sizePlain, size}
 use Rattle.word.specs.Reading.{parameterCount}
 use Rattle.word.specs.Reading as reading
 use Rattle.word.specs.declared.setting.Setting.{Setting}
-use Rattle.word.specs.declared.setting.Check.the-variants.{Fine}
 use Rattle.word.specs.declared.reading.Reading.{Reading}
 use Rattle.word.specs.declared.writing.Written.{Written}
-use Rattle.listing.specs.Answers.{number, itemRefusal}
+use Rattle.listing.specs.Answers.{number, values, itemRefusal}
 use Rattle.listing.specs.Contracts.{ListsAt, Begins, Gives}
 use Rattle.listing.specs.declared.command.Item.{Item}
-use Rattle.listing.specs.declared.command.Item.the-variants.{Command, Past, Reserved, Short}
 use Rattle.listing.specs.declared.command.Listed.{Listed}
 use Rattle.listing.specs.declared.listing.Listing.{Listing}
 
@@ -47,22 +45,31 @@ pub record One : Type 0 where
       → Gives s l b y
       → (a ≡ b) × (x ≡ y)
 
+-- "a listing reader that holds the lent words and its place": a new one holds the words that it is lent, at place 0.
+abbrev pub New : Type 0
+New = (words : RefT (List ℕ)) (l : Listing) → Begins words l → (l .words ≡ words) × (l .place ≡ 0)
+
 -- "It ends, says which and stays there": what is no command (number 1) leaves the reader as it was, a refusal too, so that `next`
 -- gives the same again.
 abbrev pub Stays : Type 0
 Stays = (s : Setting) (l : Listing) (a : Item) (exit : Listing) → Gives s l a exit → 2 ≤ number a → exit ≡ l
 
--- Which item, where nothing is refused, by the reading of the word at the place with the word after it, or 0 after the last. A
--- reading's number 9 is 'reserved'; a command has its own words (`size`) and its parameters.
+-- an item is a command: number 1, with the command's number and values
+abbrev pub IsCommand : Reading → Item → Type 0
+IsCommand r a = (number a ≡ 1) × (values a ≡ reading.number r ∷ reading.values r)
+
+-- Which item, where nothing is refused, by the reading of the word at the place with the word after it, or 0 after the last: 2 past
+-- the last word, 3 at a reserved word (a reading's number 9), 4 at a command whose words run short, else the command. A command has
+-- its own words (`size`) and its parameters.
 pub record Items : Type 0 where
-  pub past : (s : Setting) (ws : List ℕ) (p : ℕ) (a : Listed) → ListsAt s ws p a → itemRefusal (a .item) ≡ none → a .item ≡ Past ↔ length ws ≤ p
+  pub past : (s : Setting) (ws : List ℕ) (p : ℕ) (a : Listed) → ListsAt s ws p a → itemRefusal (a .item) ≡ none → number (a .item) ≡ 2 ↔ length ws ≤ p
   pub reserved :
       (s : Setting) (ws : List ℕ) (p : ℕ) (a : Listed) (r : Reading)
       → ListsAt s ws p a
       → itemRefusal (a .item) ≡ none
       → p < length ws
       → Reads s (getD ws p 0) (getD ws (p + 1) 0) r
-      → a .item ≡ Reserved ↔ reading.number r ≡ 9
+      → number (a .item) ≡ 3 ↔ reading.number r ≡ 9
   pub short :
       (s : Setting) (ws : List ℕ) (p : ℕ) (a : Listed) (r : Reading)
       → ListsAt s ws p a
@@ -71,7 +78,7 @@ pub record Items : Type 0 where
       → Reads s (getD ws p 0) (getD ws (p + 1) 0) r
       → reading.number r ≤ 8
       → length ws < p + size r + parameterCount r
-      → a .item ≡ Short
+      → number (a .item) ≡ 4
   pub command :
       (s : Setting) (ws : List ℕ) (p : ℕ) (a : Listed) (r : Reading)
       → ListsAt s ws p a
@@ -80,9 +87,17 @@ pub record Items : Type 0 where
       → Reads s (getD ws p 0) (getD ws (p + 1) 0) r
       → reading.number r ≤ 8
       → p + size r + parameterCount r ≤ length ws
-      → (a .item ≡ Command r) × (a .place ≡ p + size r + parameterCount r)
+      → IsCommand r (a .item) × (a .place ≡ p + size r + parameterCount r)
 
--- Listing what the writer wrote gives the commands back.
+-- `next` gives what `list_at` gives of the words that the reader holds, at its place, and the reader goes on after it.
+abbrev pub Next : Type 0
+Next =
+    (s : Setting) (l : Listing) (a : Item) (exit : Listing) (x : Listed)
+    → Gives s l a exit
+    → ListsAt s (now (l .words)) (l .place) x
+    → (number a ≡ number (x .item)) × (values a ≡ values (x .item)) × (exit .words ≡ l .words) × (exit .place ≡ x .place)
+
+-- Listing what the writer wrote gives the commands back, at a setting that is not refused.
 
 -- words made of commands: of each what the writer writes of it into an output just long enough, then as many parameters as its
 -- count says, whatever they are
@@ -99,13 +114,13 @@ pub data Made (s : Setting) : List Reading → List ℕ → Type 0 where
 
 -- from a place on, a listing gives these commands in turn, and then ends past the last word
 pub data InTurn (s : Setting) (ws : List ℕ) : ℕ → List Reading → Type 0 where
-  over : (p : ℕ) (a : Listed) → ListsAt s ws p a → a .item ≡ Past → InTurn s ws p []
+  over : (p : ℕ) (a : Listed) → ListsAt s ws p a → number (a .item) ≡ 2 → InTurn s ws p []
   on :
       (p : ℕ) (r : Reading) (rs : List Reading) (a : Listed)
       → ListsAt s ws p a
-      → a .item ≡ Command r
+      → IsCommand r (a .item)
       → InTurn s ws (a .place) rs
       → InTurn s ws p (r ∷ rs)
 
 abbrev pub GivesBack : Type 0
-GivesBack = (s : Setting) (rs : List Reading) (ws : List ℕ) → Checks s Fine → length ws ≤ 1048576 → Made s rs ws → InTurn s ws 0 rs
+GivesBack = (s : Setting) (rs : List Reading) (ws : List ℕ) → (SomeHolds (settingPlain s) → ⊥) → length ws ≤ 1048576 → Made s rs ws → InTurn s ws 0 rs

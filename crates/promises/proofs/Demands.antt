@@ -1,16 +1,20 @@
 -- The demands, each from the proofs of its statements. Assumes nothing.
 use Rattle.word.proofs.Promises as word
+use Rattle.word.proofs.Forms as word-forms
+use Rattle.word.proofs.Told as word-told
 use Rattle.event.proofs.Promises as event
 use Rattle.puller.proofs.Failing as puller-failing
 use Rattle.puller.proofs.Promises as puller
 use Rattle.puller.proofs.Widths as puller-widths
 use Rattle.pusher.proofs.Failing as pusher-failing
 use Rattle.pusher.proofs.Promises as pusher
+use Rattle.pusher.proofs.Told as pusher-told
 use Rattle.pusher.proofs.Widths as pusher-widths
 use Rattle.channel.proofs.AtMostOneMove as channel-moves
 use Rattle.channel.proofs.Idling as channel-idling
 use Rattle.channel.proofs.Promises as channel
 use Rattle.channel.proofs.ReadAs as channel-read
+use Rattle.rules.proofs.ExactIsOne as rules-exact
 use Rattle.rules.proofs.Examples as rules-examples
 use Rattle.rules.proofs.Promises as rules
 use Rattle.rules.proofs.Reasons as rules-reasons
@@ -31,6 +35,7 @@ first =
       gate-refused = rules.refused;
       listing-refused = listing.refused;
       trace-refused = trace.refused;
+      gate-submitted = rules.submitted;
       gate-reasons = rules-reasons.reasons;
       gate-first-pairs = rules-reasons.first-pairs;
       gate-at-one-pair = rules-reasons.at-one-pair;
@@ -49,7 +54,6 @@ second : Second
 second =
     record {
       steps = channel.steps;
-      setters = channel.setters;
       pusher-failing = pusher-failing.failing;
       puller-failing = puller-failing.failing;
       first-repeat = puller.first-repeat;
@@ -60,19 +64,38 @@ second =
       pusher-widths = pusher-widths.keeps-widths;
       puller-widths = puller-widths.keeps-widths;
       idle = channel-idling.idle;
-      told = event.told;
+      pusher-setters = pusher.setters;
+      puller-setters = puller.setters;
+      pusher-lends = pusher.lends;
+      puller-lends = puller.lends;
+      channel-lends = channel.lends;
+      kinds = event.kinds;
+      pusher-errors = pusher.errors;
+      puller-errors = puller.errors;
+      events-told = event.told;
+      readings-told = word-told.told;
+      moves-told = pusher-told.told;
+      forms = word-forms.forms;
+      parameters = word-told.parameters;
       read-back = word.read-back;
       write-back = word.write-back;
       at-place = word.at-place;
       widths = word.widths;
       specials = word.specials;
-      one-form = word.one-form;
+      one-form = word-forms.one-form;
       little-endian = word.little-endian;
+      new = listing.new;
       listed = listing.items;
       stays = listing.stays;
+      next = listing.next;
       gives-back = listing.gives-back;
+      begun = trace.begun;
       ended = trace.ended;
+      endings = trace.endings;
       whole = trace.whole;
+      texts = trace.texts;
+      names = trace.names;
+      next-line = trace.next-line;
       loaded = trace.loaded;
       printed = trace.printed;
       printed-cases = trace.cases;
@@ -88,6 +111,7 @@ third =
       at-most-one-move = channel-moves.at-most-one-move;
       read-as = channel-read.read-as;
       complete = rules.complete;
+      exact-is-one = rules-exact.exact-is-one;
       none-bad = rules.none-bad;
       examples = rules-examples.examples;
       counted = rules.counted;

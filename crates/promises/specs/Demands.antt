@@ -4,6 +4,7 @@
 -- in plain words.
 use Rattle.word.specs.Numbers as numbers
 use Rattle.word.specs.Promises as word
+use Rattle.word.specs.Forms as word-forms
 use Rattle.event.specs.Promises as event
 use Rattle.puller.specs.Promises as puller
 use Rattle.puller.specs.Widths as puller-widths
@@ -26,7 +27,9 @@ pub record First : Type 0 where
   pub gate-refused : rules.Refused
   pub listing-refused : listing.Refused
   pub trace-refused : trace.Refused
-  -- and so is a reason, with its place; of the first refused pair also its state, and of one pair each part of the list by itself
+  -- and so is a reason of what is submitted, with its place; of the first refused pair also its state, and of one pair each part of the
+  -- list by itself
+  pub gate-submitted : reasons.Submitted
   pub gate-reasons : reasons.Reasons
   pub gate-first-pairs : reasons.FirstPairs
   pub gate-at-one-pair : reasons.AtOnePair
@@ -46,7 +49,6 @@ pub record First : Type 0 where
 pub record Second : Type 1 where
   -- what the channel, its pusher and its puller do, sentence by sentence, at every channel that is not refused
   pub steps : channel.Steps
-  pub setters : channel.Setters
   pub pusher-failing : pusher.Failing
   pub puller-failing : puller.Failing
   pub first-repeat : puller.FirstRepeat
@@ -60,23 +62,45 @@ pub record Second : Type 1 where
   pub puller-widths : puller-widths.KeepsWidths
   -- whether a further step would be idle
   pub idle : channel.Idle
-  pub told : event.Told
-  -- reader and writer
+  -- by what the sentences name things: halves with one thing changed; what is lent as one thing; kinds and errors by their numbers;
+  -- events, readings and what a move did by their numbers and values
+  pub pusher-setters : pusher.Setters
+  pub puller-setters : puller.Setters
+  pub pusher-lends : pusher.Lends
+  pub puller-lends : puller.Lends
+  pub channel-lends : channel.Lends
+  pub kinds : event.Kinds
+  pub pusher-errors : pusher.Errors
+  pub puller-errors : puller.Errors
+  pub events-told : event.Told
+  pub readings-told : word.Told
+  pub moves-told : pusher.Told
+  -- reader and writer: which word reads as what, and how many parameters a command has
+  pub forms : word-forms.Forms
+  pub parameters : word.Parameters
   pub read-back : word.ReadBack
   pub write-back : word.WriteBack
   pub at-place : word.AtPlace
   pub widths : word.Widths
   pub specials : word.Specials
-  pub one-form : word.OneForm
+  pub one-form : word-forms.OneForm
   pub little-endian : word.LittleEndian
-  -- the listing: which item stands where, where it stays, and that it gives back what the writer wrote
+  -- the listing: where a reader begins, which item stands where, where it stays, how it goes on, and that it gives back what the
+  -- writer wrote
+  pub new : listing.New
   pub listed : listing.Items
   pub stays : listing.Stays
+  pub next : listing.Next
   pub gives-back : listing.GivesBack
-  -- the program: how a run ends, that every line has room for its text, that every word is read,
-  -- and what is printed of every input
+  -- the program: how a run begins and ends, what every line says, that every line has room for it, what each line of a run is, that
+  -- every word is read, and what is printed of every input
+  pub begun : trace.Begun
   pub ended : trace.Ended
+  pub endings : trace.Endings
   pub whole : trace.Whole
+  pub texts : trace.Texts
+  pub names : trace.Names
+  pub next-line : trace.NextLine
   pub loaded : trace.Loaded
   pub printed : trace.Printed
   pub printed-cases : trace.Cases
@@ -94,11 +118,12 @@ pub record Third : Type 0 where
   -- of the pusher's moves alone, and how a step comes to one
   pub sound-moves : rules.SoundMoves
   pub at-most-one-move : channel.AtMostOneMove
-  -- what 'reads as' is by place and event
+  -- what 'reads as' is by event
   pub read-as : channel.ReadAs
   pub complete : rules.Complete
+  pub exact-is-one : rules.ExactIsOne
   pub none-bad : rules.NoneBad
-  -- three submissions that the second half speaks of
+  -- small submissions that the second half speaks of, and one with a bad place
   pub examples : examples.Examples
   -- the count of the answer is the number of permitted methods, and the number for C gives the answer back
   pub counted : rules.Counted

@@ -1,22 +1,24 @@
 -- A puller that fails says so and writes nothing. Assumes nothing.
 use Prim.Native.Nat.{ℕ}
 use mathlib.Core.Path.{_≡_, refl, ap, _∙_}
-use mathlib.Core.List.{List}
+use mathlib.Core.List.{List, [], _∷_}
+use mathlib.Core.Logic.{_⊎_, inl, inr}
+use Rattle.event.specs.Event.{values, number as kindNumber}
 use Rattle.event.specs.declared.Kind.the-variants as kind
 use Rattle.event.specs.declared.Method.{Method}
-use Rattle.event.specs.declared.Event.the-variants.{Plain}
 use Rattle.puller.specs.Loan.{PullerLoan}
-use Rattle.puller.specs.Record.{number}
+use Rattle.puller.specs.Record.{number, withEngine}
 use Rattle.puller.specs.Taking.{failedBy, retryOf, Result}
-use Rattle.puller.specs.Promises.{Failing}
+use Rattle.puller.specs.Promises.{Failed, Failing}
+use Rattle.puller.specs.declared.record.PullerError.the-variants as cause
 use Rattle.puller.specs.declared.record.Puller.{Puller}
 use Rattle.puller.specs.declared.taking.Taken.{Taken}
-use Rattle.puller.proofs.Ways.{by-retry, After, unchanged, bound, boundLast, referred, semaphoreBound, offset, waiting, forwarded, Way, failed, done, released, goes}
+use Rattle.puller.proofs.Leaving.{failed-by, failed-fails}
+use Rattle.puller.proofs.Ways.{by-retry, After, unchanged, boundLast, referred, semaphoreBound, offset, waiting, forwarded, Way, failed, failedBound, done, released, goes}
 
--- but for an error of its own a method leaves the error as it was
+-- a method that is done leaves the error as it was
 same-error : {p : Puller} {m : Method} {t : List ℕ} {q : Puller} → After p m t q → q .error ≡ p .error
 same-error unchanged = refl
-same-error (bound o n) = refl
 same-error (boundLast o n) = refl
 same-error referred = refl
 same-error (semaphoreBound o n) = refl
@@ -25,13 +27,19 @@ same-error waiting = refl
 same-error forwarded = refl
 
 module _ (p : Puller) (run : number (p .error) ≡ 0) where
-  -- it has failed only if it says so, and then it has written nothing
+  -- nothing but the error has changed, or the binding of SOFTWARE too
+  abbrev Stays : Method → Puller → Type 0
+  Stays m q = Failed p (q .error) q ⊎ Failed (withEngine p (m .subchannel) 0) cause.EmptySubchannel q
+
+  -- it has failed only if it says so, and then it has written nothing and stays so
   quiet :
       {m : Method} {l : PullerLoan} (o : Result)
       → Way p m l o
       → (number (o .taken .puller .error) ≡ 0 → ⊥)
-      → (o .taken .event ≡ Plain kind.Error) × (o .memory ≡ l .semaphores)
-  quiet o (failed e h) n = (refl, refl)
+      → (values (o .taken .event) ≡ kindNumber kind.Error ∷ []) × (o .memory ≡ l .semaphores) × Stays m (o .taken .puller)
+  unfolding values
+  quiet o (failed e) n = (refl, refl, inl (failed-by p e))
+  quiet {m} o (failedBound z) n = (refl, refl, inr (rw z (failed-by (withEngine p (m .subchannel) 0) cause.EmptySubchannel)))
   quiet o (done k x h) n = absurd (n (ap number (same-error h) ∙ run))
   quiet o released n = absurd (n run)
 
@@ -48,5 +56,6 @@ failing =
       take = λ level p m l exit r h run n.
           let q = quiet p run _ (goes (level .number) p m l) (rw (h .answer) at n) in
           (rw (h .answer) (q .0), rw (h .memory) (q .1));
-      retry = λ level p sems r h run n. rw h (retry-only p run (level .number) sems (rw h at n));
+      stays = λ level p m l exit r h run n. rw (h .answer) (quiet p run _ (goes (level .number) p m l) (rw (h .answer) at n) .2);
+      retry = λ level p sems r h run n. failed-fails (rw h (retry-only p run (level .number) sems (rw h at n)));
     }

@@ -92,7 +92,10 @@ module _ (p : Puller) (m : Method) (t : List ℕ) where
 
     pub bind-software-is : o .engine ≡ 0 → bindOf p m t ≡ failedBy (withEngine p (m .subchannel) 0) cause.EmptySubchannel
     unfolding bindOf bindTo
-    bind-software-is z = found-is p t _ _ o n ∙ choose-true (eq-eqb _ _ z) _ _ ∙ rw z
+    bind-software-is z =
+        found-is p t _ _ o n
+        ∙ choose-true (eq-eqb _ _ z) _ _
+        ∙ ap (λ (e : ℕ). failedBy (withEngine p (m .subchannel) e) cause.EmptySubchannel) z
 
     -- 0x60
     pub dma-unfit-is : (level : Level) → Unfit level o → dmaOf (level .number) p m t ≡ failedBy p cause.Semaphore1

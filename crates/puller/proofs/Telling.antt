@@ -10,7 +10,7 @@ use Rattle.event.specs.declared.Event.the-variants.{Plain, Of}
 use Rattle.puller.specs.Loan.{PullerLoan}
 use Rattle.puller.specs.Taking.{Result, takeOf}
 use Rattle.puller.specs.declared.record.Puller.{Puller}
-use Rattle.puller.proofs.Ways.{Way, failed, done, released, goes}
+use Rattle.puller.proofs.Ways.{Way, failed, failedBound, done, released, goes}
 
 -- an event tells the method, or that it failed
 abbrev pub Tells : Method → Event → Type 0
@@ -21,7 +21,8 @@ told m k n = inr (k, n, refl)
 
 -- what the puller says of a method that it takes
 tells : {p : Puller} (m : Method) {l : PullerLoan} (o : Result) → Way p m l o → Tells m (o .taken .event)
-tells m o (failed e h) = inl refl
+tells m o (failed e) = inl refl
+tells m o (failedBound z) = inl refl
 tells m o (done k x h) = told m k x
 tells m o released = told m _ _
 

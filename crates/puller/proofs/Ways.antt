@@ -4,6 +4,7 @@ use mathlib.Core.Path.{_≡_, refl}
 use mathlib.Core.Bool.{Bool, true}
 use mathlib.Core.List.{List}
 use lib.ListN.{set}
+use borrow.Author.Tests.{eqb-true}
 use Rattle.word.proofs.First.{by-test}
 use Rattle.event.specs.declared.Kind.{Kind}
 use Rattle.event.specs.declared.Kind.the-variants as kind
@@ -40,10 +41,9 @@ pub by-retry :
 unfolding retryOf
 by-retry P level p sems f g h = by-trial P level p _ f g h
 
--- the puller after a method, but for an error
+-- the puller after a method that is done
 pub data After (p : Puller) (m : Method) (t : List ℕ) : Puller → Type 0 where
   unchanged : After p m t p
-  bound : (o : Object) → Names t (m .parameter) o → After p m t (withEngine p (m .subchannel) (o .engine))
   boundLast : (o : Object) → Names t (m .parameter) o → After p m t (withLast (withEngine p (m .subchannel) (o .engine)) (o .engine))
   referred : After p m t (withReference p (m .parameter))
   semaphoreBound : (o : Object) → Names t (m .parameter) o → After p m t (withDma p (o .address))
@@ -51,9 +51,10 @@ pub data After (p : Puller) (m : Method) (t : List ℕ) : Puller → Type 0 wher
   waiting : After p m t (withAcquire p true (m .parameter))
   forwarded : After p m t (withLast p (engineOf p (m .subchannel)))
 
--- a method fails or is done, and one writes
+-- a method fails, or fails with the binding of SOFTWARE stored, or is done; and one writes
 pub data Way (p : Puller) (m : Method) (l : PullerLoan) : Result → Type 0 where
-  failed : {q : Puller} (e : PullerError) → After p m (l .table) q → Way p m l (unwritten (l .semaphores) (failedBy q e))
+  failed : (e : PullerError) → Way p m l (unwritten (l .semaphores) (failedBy p e))
+  failedBound : {engine : ℕ} → engine ≡ 0 → Way p m l (unwritten (l .semaphores) (failedBy (withEngine p (m .subchannel) engine) cause.EmptySubchannel))
   done : {q : Puller} (k : Kind) (x : ℕ) → After p m (l .table) q → Way p m l (unwritten (l .semaphores) (doneWith q k m x))
   released : Way p m l (record { taken = doneWith p kind.Release m (m .parameter); memory = set (l .semaphores) (placeOf p) (m .parameter) })
 
@@ -64,25 +65,25 @@ module _ (level : ℕ) (p : Puller) (m : Method) (l : PullerLoan) where
   looked-up : (f : Found) (next : Object → Taken) → lookupOf (l .table) (m .parameter) ≡ f → ((o : Object) → Names (l .table) (m .parameter) o → Unwritten (next o)) → Unwritten (lookingUp p f next)
   unfolding lookingUp
   looked-up (found.Object o) next e h = h o (names-found (l .table) (m .parameter) o e)
-  looked-up found.Nothing next e h = failed cause.NoHash unchanged
+  looked-up found.Nothing next e h = failed cause.NoHash
 
   forwards-on : (x : ℕ) → Unwritten (forwardOf p m x)
   unfolding forwardOf
-  forwards-on x = by-test Unwritten (λ e. failed _ unchanged) (λ e. done _ _ forwarded)
+  forwards-on x = by-test Unwritten (λ e. failed _) (λ e. done _ _ forwarded)
 
   acts : (d : Deed) → Way p m l (act level p m l d)
   unfolding act bindOf bindTo dmaOf dmaTo offsetOf acquireOf releaseOf forwardObjectOf
-  acts binds = looked-up _ (bindTo p m) refl (λ o n. by-test Unwritten (λ e. failed _ (bound o n)) (λ e. done _ _ (boundLast o n)))
+  acts binds = looked-up _ (bindTo p m) refl (λ o n. by-test Unwritten (λ e. failedBound (eqb-true _ _ e)) (λ e. done _ _ (boundLast o n)))
   acts refers = done _ _ referred
   acts logs = done _ _ unchanged
-  acts bindsSemaphore = looked-up _ (dmaTo level p m) refl (λ o n. by-test Unwritten (λ e. failed _ unchanged) (λ e. done _ _ (semaphoreBound o n)))
+  acts bindsSemaphore = looked-up _ (dmaTo level p m) refl (λ o n. by-test Unwritten (λ e. failed _) (λ e. done _ _ (semaphoreBound o n)))
   acts offsets =
-      by-test Unwritten (λ b. by-test Unwritten (λ e. failed _ unchanged) (λ e. done _ _ (offset _)))
-      (λ b. by-test Unwritten (λ e. failed _ unchanged) (λ e. by-test Unwritten (λ f. failed _ unchanged) (λ f. done _ _ (offset _))))
+      by-test Unwritten (λ b. by-test Unwritten (λ e. failed _) (λ e. done _ _ (offset _)))
+      (λ b. by-test Unwritten (λ e. failed _) (λ e. by-test Unwritten (λ f. failed _) (λ f. done _ _ (offset _))))
   acts acquires =
-      by-test Unwritten (λ e. failed _ unchanged)
-      (λ e. by-trial Unwritten level p _ (failed _ unchanged) (done _ _ unchanged) (done _ _ waiting))
-  acts releases = by-test (Way p m l) (λ e. failed _ unchanged) (λ e. by-test (Way p m l) (λ f. failed _ unchanged) (λ f. released))
+      by-test Unwritten (λ e. failed _)
+      (λ e. by-trial Unwritten level p _ (failed _) (done _ _ unchanged) (done _ _ waiting))
+  acts releases = by-test (Way p m l) (λ e. failed _) (λ e. by-test (Way p m l) (λ f. failed _) (λ f. released))
   acts forwards = forwards-on (m .parameter)
   acts looksAndForwards = looked-up _ (λ (o : Object). forwardOf p m (o .address)) refl (λ o n. forwards-on (o .address))
 

@@ -14,7 +14,7 @@ use Rattle.puller.specs.Widths.{PullerFits, KeepsWidths}
 use Rattle.puller.specs.declared.object.Object.{Object}
 use Rattle.puller.specs.declared.record.Puller.{Puller}
 use Rattle.puller.specs.declared.taking.Taken.{Taken}
-use Rattle.puller.proofs.Ways.{by-retry, After, unchanged, bound, boundLast, referred, semaphoreBound, offset, waiting, forwarded, Way, failed, done, released, goes}
+use Rattle.puller.proofs.Ways.{by-retry, After, unchanged, boundLast, referred, semaphoreBound, offset, waiting, forwarded, Way, failed, failedBound, done, released, goes}
 
 -- a word stored in a list leaves the others
 below-set : (l : List ℕ) (i v k j : ℕ) → v < k → getD l j 0 < k → getD (set l i v) j 0 < k
@@ -51,7 +51,6 @@ module _ {t : List ℕ} {h : ℕ} {o : Object} (n : Names t h o) where
 module _ (p : Puller) (m : Method) (l : PullerLoan) (f : PullerFits p) (low : m .subchannel < 8) (word : m .parameter < 2 ^ 32) (table : Words (l .table)) where
   after-fits : (q : Puller) → After p m (l .table) q → PullerFits q
   after-fits q unchanged = f
-  after-fits q (bound o n) = with-engine p _ _ f (engine-fits n)
   after-fits q (boundLast o n) = with-last (withEngine p (m .subchannel) (o .engine)) _ (with-engine p _ _ f (engine-fits n)) (engine-fits n)
   after-fits q referred = record { engines = f .engines; last = f .last; reference = word; dma = f .dma; offset = f .offset; value = f .value }
   after-fits q (semaphoreBound o n) =
@@ -61,13 +60,15 @@ module _ (p : Puller) (m : Method) (l : PullerLoan) (f : PullerFits p) (low : m 
   after-fits q forwarded = with-last p _ f (f .engines (m .subchannel) low)
 
   taken-fits : (o : Result) → Way p m l o → PullerFits (o .taken .puller)
-  taken-fits o (failed e h) = after-fits _ h
+  taken-fits o (failed e) = f
+  taken-fits o (failedBound z) = with-engine p _ _ f (omega arith)
   taken-fits o (done k x h) = after-fits _ h
   taken-fits o released = f
 
 -- a word written leaves the memory as long as it was
 same-length : {p : Puller} {m : Method} {l : PullerLoan} (o : Result) → Way p m l o → length (o .memory) ≡ length (l .semaphores)
-same-length o (failed e h) = refl
+same-length o (failed e) = refl
+same-length o (failedBound z) = refl
 same-length o (done k x h) = refl
 same-length {p} {m} {l} o released = length-set (l .semaphores) (placeOf p) (m .parameter)
 

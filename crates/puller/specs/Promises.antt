@@ -3,22 +3,21 @@
 use Prim.Native.Nat.{ℕ, _+_, _*_, _/_, _%_, _^_, _≤_, _<_}
 use mathlib.Core.Path.{_≡_}
 use mathlib.Core.Bool.{Bool, true, false}
-use mathlib.Core.List.{List}
+use mathlib.Core.List.{List, [], _∷_}
 use mathlib.Core.Logic.{_⊎_, _↔_}
 use lib.ListN.{length, getD, set}
 use Rattle.word.specs.declared.setting.Level.{Level}
+use Rattle.event.specs.Event.{values, number as kindNumber}
+use Rattle.event.specs.declared.Kind.{Kind}
 use Rattle.event.specs.declared.Kind.the-variants as kind
 use Rattle.event.specs.declared.Method.{Method}
-use Rattle.event.specs.declared.Event.the-variants.{Plain}
-use Rattle.puller.specs.Loan.{PullerLoan}
-use Rattle.puller.specs.Record.{number, engineOf, withEngine, withLast, withReference, withDma, withOffset, withAcquire, withoutAcquire}
-use Rattle.puller.specs.Taking.{doneWith, saying, failedBy}
+use Rattle.puller.specs.Loan.{PullerLoan, toPuller}
+use Rattle.puller.specs.Record.{number, withEngine, withLast, withReference, withDma, withOffset, withAcquire, withoutAcquire}
+use Rattle.puller.specs.Answers.{objectValues, foundNumber, foundValues, repeatNumber, repeatValues}
 use Rattle.puller.specs.Contracts.{Finds, Repeats, Numbers, Halts, Takes, Retries}
 use Rattle.puller.specs.declared.object.Object.{Object}
 use Rattle.puller.specs.declared.object.Found.{Found}
-use Rattle.puller.specs.declared.object.Found.the-variants as found
 use Rattle.puller.specs.declared.object.Repeat.{Repeat}
-use Rattle.puller.specs.declared.object.Repeat.the-variants as repeat
 use Rattle.puller.specs.declared.record.PullerError.{PullerError}
 use Rattle.puller.specs.declared.record.PullerError.the-variants as cause
 use Rattle.puller.specs.declared.record.Puller.{Puller}
@@ -53,11 +52,20 @@ NamesNone t handle = (i : ℕ) → Whole t i → handleAt t i ≡ handle → ⊥
 
 -- `lookup` says so
 pub record Looks : Type 0 where
-  pub named : (t : List ℕ) (handle : ℕ) (o : Object) (r : Found) → Finds t handle r → Names t handle o → r ≡ found.Object o
-  pub unnamed : (t : List ℕ) (handle : ℕ) (r : Found) → Finds t handle r → NamesNone t handle → r ≡ found.Nothing
-  -- one or the other
-  pub always : (t : List ℕ) (handle : ℕ) (o : Object) (r : Found) → Finds t handle r → r ≡ found.Object o → Names t handle o
-  pub never : (t : List ℕ) (handle : ℕ) (r : Found) → Finds t handle r → r ≡ found.Nothing → NamesNone t handle
+  pub named :
+      (t : List ℕ) (handle : ℕ) (o : Object) (r : Found)
+      → Finds t handle r
+      → Names t handle o
+      → (foundNumber r ≡ 1) × (foundValues r ≡ objectValues o)
+  pub unnamed : (t : List ℕ) (handle : ℕ) (r : Found) → Finds t handle r → NamesNone t handle → foundNumber r ≡ 2
+  -- and the other way round
+  pub always :
+      (t : List ℕ) (handle : ℕ) (o : Object) (r : Found)
+      → Finds t handle r
+      → foundNumber r ≡ 1
+      → foundValues r ≡ objectValues o
+      → Names t handle o
+  pub never : (t : List ℕ) (handle : ℕ) (r : Found) → Finds t handle r → foundNumber r ≡ 2 → NamesNone t handle
 
 -- entry i repeats an earlier one
 pub record Repeated (t : List ℕ) (i : ℕ) : Type 0 where
@@ -67,8 +75,11 @@ pub record Repeated (t : List ℕ) (i : ℕ) : Type 0 where
 
 -- "the lowest entry that repeats an earlier one"
 pub record FirstRepeat : Type 0 where
-  pub entry : (t : List ℕ) (i : ℕ) (r : Repeat) → Repeats t r → r ≡ repeat.Entry i ↔ (Whole t i × Repeated t i × ((j : ℕ) → j < i → Repeated t j → ⊥))
-  pub nothing : (t : List ℕ) (r : Repeat) → Repeats t r → r ≡ repeat.Nothing ↔ ((i : ℕ) → Whole t i → Repeated t i → ⊥)
+  pub entry :
+      (t : List ℕ) (i : ℕ) (r : Repeat)
+      → Repeats t r
+      → ((repeatNumber r ≡ 1) × (repeatValues r ≡ i ∷ [])) ↔ (Whole t i × Repeated t i × ((j : ℕ) → j < i → Repeated t j → ⊥))
+  pub nothing : (t : List ℕ) (r : Repeat) → Repeats t r → repeatNumber r ≡ 2 ↔ ((i : ℕ) → Whole t i → Repeated t i → ⊥)
 
 -- "below level 4 unbound, from 4 offset not valid: SEMAPHORE 2"
 abbrev pub Unready : Level → Puller → Type 0
@@ -105,6 +116,58 @@ pub record Unnamed (m : ℕ) : Type 0 where
   pub not-yield : m ≡ 0x80 → ⊥
   pub not-logged : (m < 0x10) ⊎ (0x24 < m)
 
+-- the engine bound to a subchannel
+abbrev pub engineAt : Puller → ℕ → ℕ
+engineAt p subchannel = getD (p .engines) subchannel 0
+
+-- The setters by which the sentences name a puller with one thing changed: each is written out here.
+pub record Setters : Type 0 where
+  pub engine :
+      (p : Puller) (s e : ℕ)
+      → withEngine p s e ≡ record { engines = set (p .engines) s e; last = p .last; reference = p .reference; semaphore = p .semaphore; acquire = p .acquire; error = p .error }
+  pub last :
+      (p : Puller) (e : ℕ)
+      → withLast p e ≡ record { engines = p .engines; last = e; reference = p .reference; semaphore = p .semaphore; acquire = p .acquire; error = p .error }
+  pub reference :
+      (p : Puller) (x : ℕ)
+      → withReference p x ≡ record { engines = p .engines; last = p .last; reference = x; semaphore = p .semaphore; acquire = p .acquire; error = p .error }
+  pub dma :
+      (p : Puller) (a : ℕ)
+      → withDma p a ≡ record { engines = p .engines; last = p .last; reference = p .reference; semaphore = record { dma = a; offset = p .semaphore .offset; valid = p .semaphore .valid }; acquire = p .acquire; error = p .error }
+  pub offset :
+      (p : Puller) (x : ℕ) (valid : Bool)
+      → withOffset p x valid ≡ record { engines = p .engines; last = p .last; reference = p .reference; semaphore = record { dma = p .semaphore .dma; offset = x; valid = valid }; acquire = p .acquire; error = p .error }
+  pub acquire :
+      (p : Puller) (active : Bool) (value : ℕ)
+      → withAcquire p active value ≡ record { engines = p .engines; last = p .last; reference = p .reference; semaphore = p .semaphore; acquire = record { active = active; value = value }; error = p .error }
+  pub no-acquire :
+      (p : Puller)
+      → withoutAcquire p ≡ record { engines = p .engines; last = p .last; reference = p .reference; semaphore = p .semaphore; acquire = record { active = false; value = p .acquire .value }; error = p .error }
+
+-- "only methods taken or discarded have further fields ...; param is as handed on, after any lookup": what the event says of a
+-- method m that is taken, with x handed on
+abbrev pub telling : Kind → Method → ℕ → List ℕ
+telling k m x = kindNumber k ∷ m .subchannel ∷ m .method ∷ x ∷ []
+
+-- r leaves the puller q, and its event says these numbers
+pub record Leaves (q : Puller) (said : List ℕ) (r : Taken) : Type 0 where
+  pub puller : r .puller ≡ q
+  pub event : values (r .event) ≡ said
+
+-- q is p stopped by the error e, all else as it was
+pub record Failed (p : Puller) (e : PullerError) (q : Puller) : Type 0 where
+  pub engines : q .engines ≡ p .engines
+  pub last : q .last ≡ p .last
+  pub reference : q .reference ≡ p .reference
+  pub semaphore : q .semaphore ≡ p .semaphore
+  pub acquire : q .acquire ≡ p .acquire
+  pub error : q .error ≡ e
+
+-- r leaves p so stopped and says so, without further fields: "error and a retry (acquire or wait) none"
+pub record Fails (p : Puller) (e : PullerError) (r : Taken) : Type 0 where
+  pub puller : Failed p e (r .puller)
+  pub event : values (r .event) ≡ kindNumber kind.Error ∷ []
+
 -- The sentences, of any relation R between what a puller is given with a method and what it leaves: what changes, and nothing
 -- else does. Where there is an error, "no semaphore word changes".
 pub record Sentences (R : Level → Puller → Method → PullerLoan → Taken → List ℕ → Type 0) : Type 0 where
@@ -115,7 +178,7 @@ pub record Sentences (R : Level → Puller → Method → PullerLoan → Taken �
       → m .method ≡ 0x00
       → Names (l .table) (m .parameter) o
       → (o .engine ≡ 0 → ⊥)
-      → (r ≡ doneWith (withLast (withEngine p (m .subchannel) (o .engine)) (o .engine)) kind.Bind m (o .address)) × (exit ≡ l .semaphores)
+      → Leaves (withLast (withEngine p (m .subchannel) (o .engine)) (o .engine)) (telling kind.Bind m (o .address)) r × (exit ≡ l .semaphores)
   -- "Engine 0 is SOFTWARE: the binding is stored, then EMPTY_SUBCHANNEL."
   pub bind-software :
       (level : Level) (p : Puller) (m : Method) (l : PullerLoan) (exit : List ℕ) (o : Object) (r : Taken)
@@ -123,32 +186,32 @@ pub record Sentences (R : Level → Puller → Method → PullerLoan → Taken �
       → m .method ≡ 0x00
       → Names (l .table) (m .parameter) o
       → o .engine ≡ 0
-      → (r ≡ failedBy (withEngine p (m .subchannel) 0) cause.EmptySubchannel) × (exit ≡ l .semaphores)
+      → Fails (withEngine p (m .subchannel) 0) cause.EmptySubchannel r × (exit ≡ l .semaphores)
   -- "none is CACHE_ERROR NO_HASH", at 0x00, 0x60 and 0x180 to 0x1fc
   pub no-hash :
       (level : Level) (p : Puller) (m : Method) (l : PullerLoan) (exit : List ℕ) (r : Taken)
       → R level p m l r exit
       → ((m .method ≡ 0x00) ⊎ (m .method ≡ 0x60) ⊎ ((0x180 ≤ m .method) × (m .method ≤ 0x1fc)))
       → NamesNone (l .table) (m .parameter)
-      → (r ≡ failedBy p cause.NoHash) × (exit ≡ l .semaphores)
+      → Fails p cause.NoHash r × (exit ≡ l .semaphores)
   -- "0x50: ref takes the parameter."
   pub ref :
       (level : Level) (p : Puller) (m : Method) (l : PullerLoan) (exit : List ℕ) (r : Taken)
       → R level p m l r exit
       → m .method ≡ 0x50
-      → (r ≡ doneWith (withReference p (m .parameter)) kind.Ref m (m .parameter)) × (exit ≡ l .semaphores)
+      → Leaves (withReference p (m .parameter)) (telling kind.Ref m (m .parameter)) r × (exit ≡ l .semaphores)
   -- "0x80 and 0x10 to 0x24: an event, no effect."
   pub event :
       (level : Level) (p : Puller) (m : Method) (l : PullerLoan) (exit : List ℕ) (r : Taken)
       → R level p m l r exit
       → ((m .method ≡ 0x80) ⊎ ((0x10 ≤ m .method) × (m .method ≤ 0x24)))
-      → (r ≡ doneWith p kind.Event m (m .parameter)) × (exit ≡ l .semaphores)
+      → Leaves p (telling kind.Event m (m .parameter)) r × (exit ≡ l .semaphores)
   -- the methods below 0x100 that no level has, and no pusher submits
   pub unnamed :
       (level : Level) (p : Puller) (m : Method) (l : PullerLoan) (exit : List ℕ) (r : Taken)
       → R level p m l r exit
       → Unnamed (m .method)
-      → (r ≡ doneWith p kind.Event m (m .parameter)) × (exit ≡ l .semaphores)
+      → Leaves p (telling kind.Event m (m .parameter)) r × (exit ≡ l .semaphores)
   -- "0x60: lookup. Below level 4, class not 2, not write-only or page table absent: SEMAPHORE 1."
   pub dma-unfit :
       (level : Level) (p : Puller) (m : Method) (l : PullerLoan) (exit : List ℕ) (o : Object) (r : Taken)
@@ -156,7 +219,7 @@ pub record Sentences (R : Level → Puller → Method → PullerLoan → Taken �
       → m .method ≡ 0x60
       → Names (l .table) (m .parameter) o
       → Unfit level o
-      → (r ≡ failedBy p cause.Semaphore1) × (exit ≡ l .semaphores)
+      → Fails p cause.Semaphore1 r × (exit ≡ l .semaphores)
   -- "The address is stored"
   pub dma :
       (level : Level) (p : Puller) (m : Method) (l : PullerLoan) (exit : List ℕ) (o : Object) (r : Taken)
@@ -164,7 +227,7 @@ pub record Sentences (R : Level → Puller → Method → PullerLoan → Taken �
       → m .method ≡ 0x60
       → Names (l .table) (m .parameter) o
       → (Unfit level o → ⊥)
-      → (r ≡ doneWith (withDma p (o .address)) kind.Dma m (o .address)) × (exit ≡ l .semaphores)
+      → Leaves (withDma p (o .address)) (telling kind.Dma m (o .address)) r × (exit ≡ l .semaphores)
   -- "0x64: below level 4, any bit outside 0xffc: SEMAPHORE 1."
   pub offset-outside :
       (level : Level) (p : Puller) (m : Method) (l : PullerLoan) (exit : List ℕ) (r : Taken)
@@ -172,7 +235,7 @@ pub record Sentences (R : Level → Puller → Method → PullerLoan → Taken �
       → m .method ≡ 0x64
       → level .number < 4
       → ((m .parameter % 4 ≡ 0 → ⊥) ⊎ (m .parameter / 2 ^ 12 % 2 ^ 20 ≡ 0 → ⊥))
-      → (r ≡ failedBy p cause.Semaphore1) × (exit ≡ l .semaphores)
+      → Fails p cause.Semaphore1 r × (exit ≡ l .semaphores)
   pub offset-below-4 :
       (level : Level) (p : Puller) (m : Method) (l : PullerLoan) (exit : List ℕ) (r : Taken)
       → R level p m l r exit
@@ -180,7 +243,7 @@ pub record Sentences (R : Level → Puller → Method → PullerLoan → Taken �
       → level .number < 4
       → m .parameter % 4 ≡ 0
       → m .parameter / 2 ^ 12 % 2 ^ 20 ≡ 0
-      → (r ≡ doneWith (withOffset p (m .parameter) (p .semaphore .valid)) kind.Offset m (m .parameter)) × (exit ≡ l .semaphores)
+      → Leaves (withOffset p (m .parameter) (p .semaphore .valid)) (telling kind.Offset m (m .parameter)) r × (exit ≡ l .semaphores)
   -- "From 4: low two bits, SEMAPHORE 1; then bits 31-16, SEMAPHORE 3; stored and valid."
   pub offset-unaligned :
       (level : Level) (p : Puller) (m : Method) (l : PullerLoan) (exit : List ℕ) (r : Taken)
@@ -188,7 +251,7 @@ pub record Sentences (R : Level → Puller → Method → PullerLoan → Taken �
       → m .method ≡ 0x64
       → 4 ≤ level .number
       → (m .parameter % 4 ≡ 0 → ⊥)
-      → (r ≡ failedBy p cause.Semaphore1) × (exit ≡ l .semaphores)
+      → Fails p cause.Semaphore1 r × (exit ≡ l .semaphores)
   pub offset-too-large :
       (level : Level) (p : Puller) (m : Method) (l : PullerLoan) (exit : List ℕ) (r : Taken)
       → R level p m l r exit
@@ -196,7 +259,7 @@ pub record Sentences (R : Level → Puller → Method → PullerLoan → Taken �
       → 4 ≤ level .number
       → m .parameter % 4 ≡ 0
       → (m .parameter / 2 ^ 16 % 2 ^ 16 ≡ 0 → ⊥)
-      → (r ≡ failedBy p cause.Semaphore3) × (exit ≡ l .semaphores)
+      → Fails p cause.Semaphore3 r × (exit ≡ l .semaphores)
   pub offset-from-4 :
       (level : Level) (p : Puller) (m : Method) (l : PullerLoan) (exit : List ℕ) (r : Taken)
       → R level p m l r exit
@@ -204,14 +267,14 @@ pub record Sentences (R : Level → Puller → Method → PullerLoan → Taken �
       → 4 ≤ level .number
       → m .parameter % 4 ≡ 0
       → m .parameter / 2 ^ 16 % 2 ^ 16 ≡ 0
-      → (r ≡ doneWith (withOffset p (m .parameter) true) kind.Offset m (m .parameter)) × (exit ≡ l .semaphores)
+      → Leaves (withOffset p (m .parameter) true) (telling kind.Offset m (m .parameter)) r × (exit ≡ l .semaphores)
   -- "0x68 acquire, 0x6c release: below level 4 unbound, from 4 offset not valid: SEMAPHORE 2."
   pub unready :
       (level : Level) (p : Puller) (m : Method) (l : PullerLoan) (exit : List ℕ) (r : Taken)
       → R level p m l r exit
       → ((m .method ≡ 0x68) ⊎ (m .method ≡ 0x6c))
       → Unready level p
-      → (r ≡ failedBy p cause.Semaphore2) × (exit ≡ l .semaphores)
+      → Fails p cause.Semaphore2 r × (exit ≡ l .semaphores)
   -- "Past its end: SEMAPHORE 2 below level 4, 4 from there."
   pub past-end :
       (level : Level) (p : Puller) (m : Method) (l : PullerLoan) (exit : List ℕ) (e : PullerError) (r : Taken)
@@ -219,7 +282,7 @@ pub record Sentences (R : Level → Puller → Method → PullerLoan → Taken �
       → ((m .method ≡ 0x68) ⊎ (m .method ≡ 0x6c))
       → Ready level p
       → PastEnd level p (l .semaphores) e
-      → (r ≡ failedBy p e) × (exit ≡ l .semaphores)
+      → Fails p e r × (exit ≡ l .semaphores)
   -- "Acquire goes on when equal,"
   pub acquire :
       (level : Level) (p : Puller) (m : Method) (l : PullerLoan) (exit : List ℕ) (r : Taken)
@@ -228,7 +291,7 @@ pub record Sentences (R : Level → Puller → Method → PullerLoan → Taken �
       → Ready level p
       → Inside p (l .semaphores)
       → wordIn p (l .semaphores) ≡ m .parameter
-      → (r ≡ doneWith p kind.Acquire m (m .parameter)) × (exit ≡ l .semaphores)
+      → Leaves p (telling kind.Acquire m (m .parameter)) r × (exit ≡ l .semaphores)
   -- "else is active and waits, its value stored."
   pub wait :
       (level : Level) (p : Puller) (m : Method) (l : PullerLoan) (exit : List ℕ) (r : Taken)
@@ -237,7 +300,7 @@ pub record Sentences (R : Level → Puller → Method → PullerLoan → Taken �
       → Ready level p
       → Inside p (l .semaphores)
       → (wordIn p (l .semaphores) ≡ m .parameter → ⊥)
-      → (r ≡ doneWith (withAcquire p true (m .parameter)) kind.Wait m (m .parameter)) × (exit ≡ l .semaphores)
+      → Leaves (withAcquire p true (m .parameter)) (telling kind.Wait m (m .parameter)) r × (exit ≡ l .semaphores)
   -- "Release writes that word only."
   pub release :
       (level : Level) (p : Puller) (m : Method) (l : PullerLoan) (exit : List ℕ) (r : Taken)
@@ -245,23 +308,23 @@ pub record Sentences (R : Level → Puller → Method → PullerLoan → Taken �
       → m .method ≡ 0x6c
       → Ready level p
       → Inside p (l .semaphores)
-      → (r ≡ doneWith p kind.Release m (m .parameter)) × (exit ≡ set (l .semaphores) (p .semaphore .offset / 4) (m .parameter))
+      → Leaves p (telling kind.Release m (m .parameter)) r × (exit ≡ set (l .semaphores) (p .semaphore .offset / 4) (m .parameter))
   -- "0x100 up: ... Engine 0: EMPTY_SUBCHANNEL."
   pub forward-software :
       (level : Level) (p : Puller) (m : Method) (l : PullerLoan) (exit : List ℕ) (r : Taken)
       → R level p m l r exit
       → 0x100 ≤ m .method
       → ((m .method < 0x180) ⊎ (0x1fc < m .method))
-      → engineOf p (m .subchannel) ≡ 0
-      → (r ≡ failedBy p cause.EmptySubchannel) × (exit ≡ l .semaphores)
+      → engineAt p (m .subchannel) ≡ 0
+      → Fails p cause.EmptySubchannel r × (exit ≡ l .semaphores)
   -- "Else forward, and the engine becomes last."
   pub forward :
       (level : Level) (p : Puller) (m : Method) (l : PullerLoan) (exit : List ℕ) (r : Taken)
       → R level p m l r exit
       → 0x100 ≤ m .method
       → ((m .method < 0x180) ⊎ (0x1fc < m .method))
-      → (engineOf p (m .subchannel) ≡ 0 → ⊥)
-      → (r ≡ doneWith (withLast p (engineOf p (m .subchannel))) kind.Forward m (m .parameter)) × (exit ≡ l .semaphores)
+      → (engineAt p (m .subchannel) ≡ 0 → ⊥)
+      → Leaves (withLast p (engineAt p (m .subchannel))) (telling kind.Forward m (m .parameter)) r × (exit ≡ l .semaphores)
   -- "for 0x180 to 0x1fc the parameter becomes the looked-up address first"
   pub object-software :
       (level : Level) (p : Puller) (m : Method) (l : PullerLoan) (exit : List ℕ) (o : Object) (r : Taken)
@@ -269,45 +332,68 @@ pub record Sentences (R : Level → Puller → Method → PullerLoan → Taken �
       → 0x180 ≤ m .method
       → m .method ≤ 0x1fc
       → Names (l .table) (m .parameter) o
-      → engineOf p (m .subchannel) ≡ 0
-      → (r ≡ failedBy p cause.EmptySubchannel) × (exit ≡ l .semaphores)
+      → engineAt p (m .subchannel) ≡ 0
+      → Fails p cause.EmptySubchannel r × (exit ≡ l .semaphores)
   pub object :
       (level : Level) (p : Puller) (m : Method) (l : PullerLoan) (exit : List ℕ) (o : Object) (r : Taken)
       → R level p m l r exit
       → 0x180 ≤ m .method
       → m .method ≤ 0x1fc
       → Names (l .table) (m .parameter) o
-      → (engineOf p (m .subchannel) ≡ 0 → ⊥)
-      → (r ≡ doneWith (withLast p (engineOf p (m .subchannel))) kind.Forward m (o .address)) × (exit ≡ l .semaphores)
+      → (engineAt p (m .subchannel) ≡ 0 → ⊥)
+      → Leaves (withLast p (engineAt p (m .subchannel))) (telling kind.Forward m (o .address)) r × (exit ≡ l .semaphores)
 
--- Promise 2, for the puller: `take` does what the sentences say,
+-- Promise 2, for the puller: `take` does what the sentences say.
 abbrev pub Pulls : Type 0
 Pulls = Sentences Takes
 
--- and they leave no case open: whatever does what they say does what `take` does.
-abbrev pub NoOther : Type 1
-NoOther =
-    (R : Level → Puller → Method → PullerLoan → Taken → List ℕ → Type 0)
-    → Sentences R
-    → (level : Level) (p : Puller) (m : Method) (l : PullerLoan) (exit : List ℕ) (r : Taken)
-    → R level p m l r exit
-    → Takes level p m l r exit
-
--- "A retry makes only the end test and the comparison; equal clears active." It has no further fields.
-pub record Retrying : Type 0 where
-  pub past-end : (level : Level) (p : Puller) (sems : List ℕ) (e : PullerError) (r : Taken) → Retries level p sems r → PastEnd level p sems e → r ≡ failedBy p e
+-- "A retry makes only the end test and the comparison; equal clears active." It has no further fields. The sentences, of any
+-- relation R between what a puller is given, with the semaphore memory, and what it leaves.
+pub record RetrySentences (R : Level → Puller → List ℕ → Taken → Type 0) : Type 0 where
+  pub past-end : (level : Level) (p : Puller) (sems : List ℕ) (e : PullerError) (r : Taken) → R level p sems r → PastEnd level p sems e → Fails p e r
   pub equal :
       (level : Level) (p : Puller) (sems : List ℕ) (r : Taken)
-      → Retries level p sems r
+      → R level p sems r
       → Inside p sems
       → wordIn p sems ≡ p .acquire .value
-      → r ≡ saying (withoutAcquire p) kind.Acquire
+      → Leaves (withoutAcquire p) (kindNumber kind.Acquire ∷ []) r
   pub unequal :
       (level : Level) (p : Puller) (sems : List ℕ) (r : Taken)
-      → Retries level p sems r
+      → R level p sems r
       → Inside p sems
       → (wordIn p sems ≡ p .acquire .value → ⊥)
-      → r ≡ saying p kind.Wait
+      → Leaves p (kindNumber kind.Wait ∷ []) r
+
+-- `retry` does what they say.
+abbrev pub Retrying : Type 0
+Retrying = RetrySentences Retries
+
+-- The sentences leave no case open: whatever does what they say does what `take` does, and what `retry` does.
+pub record NoOther : Type 1 where
+  pub take :
+      (R : Level → Puller → Method → PullerLoan → Taken → List ℕ → Type 0)
+      → Sentences R
+      → (level : Level) (p : Puller) (m : Method) (l : PullerLoan) (exit : List ℕ) (r : Taken)
+      → R level p m l r exit
+      → Takes level p m l r exit
+  pub retry :
+      (R : Level → Puller → List ℕ → Taken → Type 0)
+      → RetrySentences R
+      → (level : Level) (p : Puller) (sems : List ℕ) (r : Taken)
+      → R level p sems r
+      → Retries level p sems r
+
+-- The errors' numbers: "CACHE_ERROR NO_HASH", EMPTY_SUBCHANNEL, SEMAPHORE 1 to 4 in that order, and 0 for none. "Any puller error
+-- stops the channel": `stopped` says whether there is one.
+pub record Errors : Type 0 where
+  pub none : number cause.None ≡ 0
+  pub no-hash : number cause.NoHash ≡ 1
+  pub empty-subchannel : number cause.EmptySubchannel ≡ 2
+  pub semaphore-1 : number cause.Semaphore1 ≡ 3
+  pub semaphore-2 : number cause.Semaphore2 ≡ 4
+  pub semaphore-3 : number cause.Semaphore3 ≡ 5
+  pub semaphore-4 : number cause.Semaphore4 ≡ 6
+  pub stopped : (p : Puller) (a : Bool) → Halts p a → a ≡ true ↔ (number (p .error) ≡ 0 → ⊥)
 
 -- "Any puller error stops the channel; ... (a retry has none and stays active); no semaphore word changes."
 pub record Failing : Type 0 where
@@ -316,13 +402,25 @@ pub record Failing : Type 0 where
       → Takes level p m l r exit
       → number (p .error) ≡ 0
       → (number (r .puller .error) ≡ 0 → ⊥)
-      → (r .event ≡ Plain kind.Error) × (exit ≡ l .semaphores)
+      → (values (r .event) ≡ kindNumber kind.Error ∷ []) × (exit ≡ l .semaphores)
+  -- nothing else changes, but that "the binding is stored, then EMPTY_SUBCHANNEL"
+  pub stays :
+      (level : Level) (p : Puller) (m : Method) (l : PullerLoan) (exit : List ℕ) (r : Taken)
+      → Takes level p m l r exit
+      → number (p .error) ≡ 0
+      → (number (r .puller .error) ≡ 0 → ⊥)
+      → Failed p (r .puller .error) (r .puller) ⊎ Failed (withEngine p (m .subchannel) 0) cause.EmptySubchannel (r .puller)
   pub retry :
       (level : Level) (p : Puller) (sems : List ℕ) (r : Taken)
       → Retries level p sems r
       → number (p .error) ≡ 0
       → (number (r .puller .error) ≡ 0 → ⊥)
-      → r ≡ failedBy p (r .puller .error)
+      → Fails p (r .puller .error) r
+
+-- What `take` is lent, by its own arguments, is what its contract speaks of.
+pub record Lends : Type 0 where
+  pub table : (t sems : List ℕ) → toPuller t sems .table ≡ t
+  pub semaphores : (t sems : List ℕ) → toPuller t sems .semaphores ≡ sems
 
 -- Each contract leaves one outcome.
 pub record One : Type 0 where

@@ -3,7 +3,10 @@ pub mod Commands
 pub mod Roles
 pub mod PastWord
 pub mod Share
+pub mod Told
+pub mod Outcomes
 pub mod Sentences
+pub mod ReadsAs
 pub mod Promises
 pub mod Failing
 pub mod Widths

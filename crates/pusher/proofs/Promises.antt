@@ -2,6 +2,7 @@
 use Prim.Native.Nat.{ℕ, _+_, _*_, _/_, _%_, _^_, _≤_, _<_}
 use mathlib.Core.Path.{_≡_, refl, sym, ap, _∙_}
 use mathlib.Core.Bool.{Bool, true, false, not, false≢true}
+use mathlib.Core.List.{List, [], _∷_}
 use mathlib.Core.Logic.{_⊎_, inl, inr, ⊎-elim, _↔_}
 use native.Mathlib.Omega.{arith}
 use lib.Bits.{bitAnd}
@@ -19,11 +20,11 @@ use Rattle.word.proofs.First.{one-outcome, choose-true, choose-false}
 use Rattle.word.proofs.Promises.{widths}
 use Rattle.event.specs.declared.Kind.the-variants as kind
 use Rattle.pusher.specs.Loan.{PusherLoan}
-use Rattle.pusher.specs.Record.{number, withGet, withRun, withCount, withAwaited}
+use Rattle.pusher.specs.Record.{number, withRun, withCount, withAwaited}
 use Rattle.pusher.specs.Entry.{parts, entryOf}
 use Rattle.pusher.specs.Moving.{halted, faults, idles, role, act, pushOf, advanced, counted, quietly, failedBy, commanded, begun, conditional, called, returned}
 use Rattle.pusher.specs.Contracts.{Moves}
-use Rattle.pusher.specs.Promises.{Running, WordRead, ParameterRead, CommandRead, Share, EntryNext, EntryRead, sizeIn, Sentences, Pushes, NoOther, One, EntryNumbers}
+use Rattle.pusher.specs.Promises.{Running, ReadsWord, ReadsCommand, IsWord, ParameterRead, CommandRead, Share, EntryNext, EntryRead, sizeIn, Leaves, Fails, Sentences, Pushes, NoOther, Errors, Setters, Lends, One, EntryNumbers}
 use Rattle.pusher.specs.declared.record.Setup.{Setup}
 use Rattle.pusher.specs.declared.record.Run.{Run}
 use Rattle.pusher.specs.declared.record.PusherError.the-variants as cause
@@ -31,6 +32,7 @@ use Rattle.pusher.specs.declared.record.Pusher.{Pusher}
 use Rattle.pusher.specs.declared.moving.Pushed.{Pushed}
 use Rattle.pusher.proofs.Roles.{above-limit, past-words, past-entries, when-halted, when-words, without-ib, without-entries, when-entries}
 use Rattle.pusher.proofs.Share.{share}
+use Rattle.pusher.proofs.Outcomes.{says-of, discards-of, hands-over-of, fails-of, leaves-one, fails-one}
 use Rattle.pusher.proofs.Sentences.{runs, stands, past-of, keeps, by-role, count-is, parameter-is, command-is, non-cache-is, discard-is, submit-is, taken, rises-of, used-up-is, entry-is, empty-is, not-main-is, main-is}
 
 -- "above dma_limit ..., or beyond the lent words"
@@ -50,17 +52,9 @@ begun-some : (q : Pusher) (r : Run) (c b n : ℕ) (up : Bool) → q .run ≡ r �
 unfolding begun
 begun-some q r c b n up e a some = let number : 4 * n / 4 ≡ n = omega arith in choose-false (ne-eqb _ _ some) _ _ ∙ rw (e, a, number)
 
-nothing-is : (q : Pusher) (x : Reading) (b m : ℕ) → ((x ≡ Increasing 0 b m) ⊎ (x ≡ NonIncreasing 0 b m)) → commanded q x ≡ quietly q kind.Command
-unfolding commanded
-nothing-is q x b m h = ⊎-elim (λ e. rw e (begun-nothing q b m true)) (λ e. rw e (begun-nothing q b m false)) h
-
 long-is : (q : Pusher) (r : Run) (b n c : ℕ) → q .run ≡ r → r .count ≡ 0 → commanded q (Long b (4 * n) c) ≡ quietly (withRun q (record { count = 0; method = n; subchannel = b; increasing = false; awaited = true })) kind.Command
 unfolding commanded
 long-is q r b n c e z = let number : 4 * n / 4 ≡ n = omega arith in rw (e, z, number)
-
-jump-is : (q : Pusher) (x : Reading) (t : ℕ) → ((x ≡ OldJump t) ⊎ (x ≡ Jump t)) → commanded q x ≡ quietly (withGet q t) kind.Command
-unfolding commanded
-jump-is q x t h = ⊎-elim (λ e. rw e) (λ e. rw e) h
 
 reserved-is : (q : Pusher) (x : Reading) → 9 ≤ reading.number x → commanded q x ≡ failedBy q cause.ReservedCmd
 unfolding commanded reading.number
@@ -89,61 +83,79 @@ flag-is k mask active h = go (eqb (bitAnd k mask) 0) active refl refl
     go false false e f = absurd (false≢true (sym f ∙ h .1 (share k mask .0 (eqb-false _ _ e))))
 
 pub pushes : Pushes
-unfolding act commanded conditional called returned
+unfolding act commanded conditional called returned number reading.number reading.values
 pushes =
     record {
-      stopped = λ s p l r m h. m ∙ by-role s p l halted (when-halted s p l (stands (p .error) h));
+      stopped = λ s p l r m h. says-of kind.Stopped (m ∙ by-role s p l halted (when-halted s p l (stands (p .error) h)));
       idle = λ s p l r m run e h.
           let go = runs (p .error) run in
-          m ∙ by-role s p l idles (⊎-elim (without-ib s p l go e) (without-entries s p l go e) h);
-      protection = λ s p l r m run n h. m ∙ by-role s p l faults (beyond-is s p l run n h);
-      count = λ s p q l w r m rd past a. m ∙ count-is s p l q w rd past a ∙ counted-is q (p .run) w (keeps s p q past .run);
+          says-of kind.Idle (m ∙ by-role s p l idles (⊎-elim (without-ib s p l go e) (without-entries s p l go e) h));
+      protection = λ s p l r m run n h. fails-of cause.Protection (m ∙ by-role s p l faults (beyond-is s p l run n h));
+      count = λ s p q l w r m rd e past.
+          says-of kind.Count (m ∙ count-is s p l q w rd e past ∙ counted-is q (p .run) w (keeps s p q past .run));
       non-cache = λ s p q l w r m rd no.
-          m ∙ parameter-is s p l q w rd ∙ non-cache-is s q w (rw (keeps s p q (rd .past) .run) (sym no));
+          fails-of cause.NonCache (m ∙ parameter-is s p l q w rd ∙ non-cache-is s q w (rw (keeps s p q (rd .past) .run) (sym no)));
       discard = λ s p q l w n r m rd ri yes on off.
           let k = keeps s p q (rd .past) in
-          m ∙ parameter-is s p l q w rd
+          discards-of
+          (m ∙ parameter-is s p l q w rd
           ∙ discard-is s q w (rw (k .run) (sym yes)) on (rw (k .sli) off)
-          ∙ rw (used-up-is q (p .run) n (k .run) ri, k .run);
+          ∙ rw (used-up-is q (p .run) n (k .run) ri, k .run));
       submit = λ s p q l w n r m rd ri yes on.
           let k = keeps s p q (rd .past) in
-          m ∙ parameter-is s p l q w rd
+          hands-over-of
+          (m ∙ parameter-is s p l q w rd
           ∙ submit-is s q w (rw (k .run) (sym yes)) (rw (k .sli) (taken (s .setting .sli) (p .sli .active) on))
-          ∙ rw (used-up-is q (p .run) n (k .run) ri, k .run);
-      nothing = λ s p q l x b n r m rd h. m ∙ command-is s p l q x rd ∙ nothing-is q x b n h;
+          ∙ rw (used-up-is q (p .run) n (k .run) ri, k .run));
+      nothing = λ s p q l k b n r m rd h.
+          says-of kind.Command
+          (m
+          ∙ ⊎-elim (λ e. command-is s p l q (Increasing 0 b n) rd (sym e) refl ∙ begun-nothing q b n true)
+          (λ e. command-is s p l q (NonIncreasing 0 b n) rd (sym e) refl ∙ begun-nothing q b n false)
+          h);
       increasing = λ s p q l c b n r m rd some.
-          m ∙ command-is s p l q _ rd ∙ begun-some q (p .run) c b n true (keeps s p q (rd .past) .run) (rd .unawaited) some;
+          says-of kind.Command
+          (m ∙ command-is s p l q (Increasing c b (4 * n)) rd refl refl ∙ begun-some q (p .run) c b n true (keeps s p q (rd .past) .run) (rd .read .unawaited) some);
       non-increasing = λ s p q l c b n r m rd some.
-          m ∙ command-is s p l q _ rd ∙ begun-some q (p .run) c b n false (keeps s p q (rd .past) .run) (rd .unawaited) some;
-      long = λ s p q l b n c r m rd. m ∙ command-is s p l q _ rd ∙ long-is q (p .run) b n c (keeps s p q (rd .past) .run) (rd .none-left);
-      sli = λ s p q l k active r m rd h.
-          m ∙ command-is s p l q _ rd ∙ rw (keeps s p q (rd .past) .sli, flag-is k (p .sli .mask) active h);
-      jump = λ s p q l x t r m rd h. m ∙ command-is s p l q x rd ∙ jump-is q x t h;
+          says-of kind.Command
+          (m ∙ command-is s p l q (NonIncreasing c b (4 * n)) rd refl refl ∙ begun-some q (p .run) c b n false (keeps s p q (rd .past) .run) (rd .read .unawaited) some);
+      long = λ s p q l b n c r m rd.
+          says-of kind.Command (m ∙ command-is s p l q (Long b (4 * n) c) rd refl refl ∙ long-is q (p .run) b n c (keeps s p q (rd .past) .run) (rd .read .none-left));
+      sli = λ s p q l mask active r m rd h.
+          says-of kind.Command (m ∙ command-is s p l q (Sli mask) rd refl refl ∙ rw (keeps s p q (rd .past) .sli, flag-is mask (p .sli .mask) active h));
+      jump = λ s p q l k t r m rd h.
+          says-of kind.Command (m ∙ ⊎-elim (λ e. command-is s p l q (OldJump t) rd (sym e) refl) (λ e. command-is s p l q (Jump t) rd (sym e) refl) h);
       call = λ s p q l t r m rd off.
           let k = keeps s p q (rd .past) in
-          m ∙ command-is s p l q _ rd ∙ choose-false (rw (k .subroutine) off) _ _ ∙ rw (k .get);
+          says-of kind.Command (m ∙ command-is s p l q (Call t) rd refl refl ∙ choose-false (rw (k .subroutine) off) _ _ ∙ rw (k .get));
       call-inside = λ s p q l t r m rd on.
-          m ∙ command-is s p l q _ rd ∙ choose-true (rw (keeps s p q (rd .past) .subroutine) on) _ _;
+          fails-of cause.Call (m ∙ command-is s p l q (Call t) rd refl refl ∙ choose-true (rw (keeps s p q (rd .past) .subroutine) on) _ _);
       return = λ s p q l r m rd on.
           let k = keeps s p q (rd .past) in
-          m ∙ command-is s p l q _ rd ∙ choose-false (rw (k .subroutine, on)) _ _ ∙ rw (k .subroutine);
+          says-of kind.Command (m ∙ command-is s p l q Return rd refl refl ∙ choose-false (rw (k .subroutine, on)) _ _ ∙ rw (k .subroutine));
       return-outside = λ s p q l r m rd off.
-          m ∙ command-is s p l q _ rd ∙ choose-true (rw (keeps s p q (rd .past) .subroutine, off)) _ _;
-      reserved = λ s p q l x r m rd h. m ∙ command-is s p l q x rd ∙ reserved-is q x h;
+          fails-of cause.Return (m ∙ command-is s p l q Return rd refl refl ∙ choose-true (rw (keeps s p q (rd .past) .subroutine, off)) _ _);
+      reserved = λ s p q l k ns r m rd h.
+          fails-of cause.ReservedCmd
+          (m ∙ command-is s p l q (rd .command) rd (rd .number) (rd .values) ∙ reserved-is q (rd .command) (rw (rd .number) h));
       no-entry = λ s p l r m nx h.
-          m
+          fails-of cause.Protection
+          (m
           ∙ by-role s p l faults
-          (when-entries s p l (runs (p .error) (nx .running)) (nx .equal) (nx .ib) (nx .unequal) ∙ past-entries p (l .entries) h);
-      empty-entry = λ s p l e i r m rd z. m ∙ entry-is s p l e i rd ∙ empty-is _ e z;
-      entry-not-main = λ s p l e i r m rd some b. m ∙ entry-is s p l e i rd ∙ not-main-is _ e some b;
-      entry-main = λ s p l e i r m rd some b. m ∙ entry-is s p l e i rd ∙ main-is _ e some b;
+          (when-entries s p l (runs (p .error) (nx .running)) (nx .equal) (nx .ib) (nx .unequal) ∙ past-entries p (l .entries) h));
+      empty-entry = λ s p l e i r m rd z. fails-of cause.Ib (m ∙ entry-is s p l e i rd ∙ empty-is _ e z);
+      entry-not-main = λ s p l e i r m rd some b. says-of kind.Entry (m ∙ entry-is s p l e i rd ∙ not-main-is _ e some b);
+      entry-main = λ s p l e i r m rd some b. says-of kind.Entry (m ∙ entry-is s p l e i rd ∙ main-is _ e some b);
     }
 
 -- No case is left open: at each, the sentence that applies says of R and of `push` the same.
 module _ (R : Setup → Pusher → PusherLoan → Pushed → Type 0) (h : Sentences R) (s : Setup) (p : Pusher) (l : PusherLoan) (r : Pushed) (m : R s p l r) where
-  -- what a sentence says, of whatever relation
-  said : {x : Pushed} → ((Q : Setup → Pusher → PusherLoan → Pushed → Type 0) → Sentences Q → (y : Pushed) → Q s p l y → y ≡ x) → Moves s p l r
-  said f = one-outcome (f R h r m) (f Moves pushes (pushOf s p l) refl)
+  -- what a sentence says, of whatever relation: what the move leaves, or how it fails
+  says : {o : Pusher} {k : ℕ} {said : List ℕ} → ((Q : Setup → Pusher → PusherLoan → Pushed → Type 0) → Sentences Q → (y : Pushed) → Q s p l y → Leaves o k said y) → Moves s p l r
+  says f = leaves-one r (pushOf s p l) (f R h r m) (f Moves pushes (pushOf s p l) refl)
+
+  fails : {o : Pusher} {n : ℕ} → ((Q : Setup → Pusher → PusherLoan → Pushed → Type 0) → Sentences Q → (y : Pushed) → Q s p l y → Fails o n y) → Moves s p l r
+  fails f = fails-one r (pushOf s p l) (f R h r m) (f Moves pushes (pushOf s p l) refl)
 
   abbrev q : Pusher
   q = advanced s p
@@ -158,15 +170,15 @@ module _ (R : Setup → Pusher → PusherLoan → Pushed → Type 0) (h : Senten
           → s .setting .sli ≡ on
           → p .sli .active ≡ active
           → Moves s p l r
-      go false on active e f g = said (λ Q k y a. k .non-cache s p q l w y a rd (sym e))
-      go true false active e f g = said (λ Q k y a. k .submit s p q l w _ y a rd (rises-of (p .run)) (sym e) (inl f))
-      go true true true e f g = said (λ Q k y a. k .submit s p q l w _ y a rd (rises-of (p .run)) (sym e) (inr g))
-      go true true false e f g = said (λ Q k y a. k .discard s p q l w _ y a rd (rises-of (p .run)) (sym e) f g)
+      go false on active e f g = fails (λ Q k y a. k .non-cache s p q l w y a rd (sym e))
+      go true false active e f g = says (λ Q k y a. k .submit s p q l w _ y a rd (rises-of (p .run)) (sym e) (inl f))
+      go true true true e f g = says (λ Q k y a. k .submit s p q l w _ y a rd (rises-of (p .run)) (sym e) (inr g))
+      go true true false e f g = says (λ Q k y a. k .discard s p q l w _ y a rd (rises-of (p .run)) (sym e) f g)
 
   -- a command, by what it reads as; a method is 4 times its number
-  module _ (w : ℕ) (rd : WordRead s p l w) (unawaited : p .run .awaited ≡ false) (none-left : p .run .count ≡ 0) where
-    reading-of : (x : Reading) → x ≡ reading.readOf (s .setting) w 0 → CommandRead s p q l x
-    reading-of x e = record { word = w; read = rd; past = past-of s p; unawaited = unawaited; none-left = none-left; reads = e }
+  module _ (w : ℕ) (is-word : IsWord p l w) (rd : ReadsCommand s p l) where
+    reading-of : (x : Reading) {k : ℕ} {ns : List ℕ} → x ≡ reading.readOf (s .setting) w 0 → reading.number x ≡ k → reading.values x ≡ ns → CommandRead s p q l k ns
+    reading-of x e n v = record { read = rd; past = past-of s p; word = w; is-word = is-word; command = x; reads = e; number = n; values = v }
 
     -- a run, of either kind, by whether its count is 0
     by-count : (c : ℕ) → (c ≡ 0 → Moves s p l r) → ((c ≡ 0 → ⊥) → Moves s p l r) → Moves s p l r
@@ -185,44 +197,48 @@ module _ (R : Setup → Pusher → PusherLoan → Pushed → Type 0) (h : Senten
         go false a = outside a
 
     command : (x : Reading) → x ≡ reading.readOf (s .setting) w 0 → Within x → Moves s p l r
-    unfolding reading.number
+    unfolding reading.number reading.values
     command (Increasing c b n) e wi =
-        let four : 4 * (n / 4) ≡ n = omega (arith, wi .3) in
-        by-count c (λ z. said (λ Q k y a. k .nothing s p q l _ b n y a (reading-of _ e) (inl (ap (λ (i : ℕ). Increasing i b n) z))))
-        (λ z. said (λ Q k y a. k .increasing s p q l c b (n / 4) y a (reading-of _ (ap (λ (i : ℕ). Increasing c b i) four ∙ e)) z))
+        let four : n ≡ 4 * (n / 4) = omega (arith, wi .3) in
+        by-count c (λ z. says (λ Q k y a. k .nothing s p q l 1 b n y a (reading-of _ e refl (ap (λ (i : ℕ). i ∷ b ∷ n ∷ []) z)) (inl refl)))
+        (λ z. says (λ Q k y a. k .increasing s p q l c b (n / 4) y a (reading-of _ e refl (ap (λ (i : ℕ). c ∷ b ∷ i ∷ []) four)) z))
     command (NonIncreasing c b n) e wi =
-        let four : 4 * (n / 4) ≡ n = omega (arith, wi .3) in
-        by-count c (λ z. said (λ Q k y a. k .nothing s p q l _ b n y a (reading-of _ e) (inr (ap (λ (i : ℕ). NonIncreasing i b n) z))))
-        (λ z. said (λ Q k y a. k .non-increasing s p q l c b (n / 4) y a (reading-of _ (ap (λ (i : ℕ). NonIncreasing c b i) four ∙ e)) z))
-    command (Sli i) e wi = said (λ Q k y a. k .sli s p q l i _ y a (reading-of _ e) (flag-of i (p .sli .mask)))
+        let four : n ≡ 4 * (n / 4) = omega (arith, wi .3) in
+        by-count c (λ z. says (λ Q k y a. k .nothing s p q l 2 b n y a (reading-of _ e refl (ap (λ (i : ℕ). i ∷ b ∷ n ∷ []) z)) (inr refl)))
+        (λ z. says (λ Q k y a. k .non-increasing s p q l c b (n / 4) y a (reading-of _ e refl (ap (λ (i : ℕ). c ∷ b ∷ i ∷ []) four)) z))
+    command (Sli i) e wi = says (λ Q k y a. k .sli s p q l i _ y a (reading-of _ e refl refl) (flag-of i (p .sli .mask)))
     command Return e wi =
-        by-active (λ on. said (λ Q k y a. k .return s p q l y a (reading-of _ e) on)) (λ off. said (λ Q k y a. k .return-outside s p q l y a (reading-of _ e) off))
+        by-active (λ on. says (λ Q k y a. k .return s p q l y a (reading-of _ e refl refl) on))
+        (λ off. fails (λ Q k y a. k .return-outside s p q l y a (reading-of _ e refl refl) off))
     command (Long b n c) e wi =
-        let four : 4 * (n / 4) ≡ n = omega (arith, wi .2) in
-        said (λ Q k y a. k .long s p q l b (n / 4) c y a (reading-of _ (ap (λ (i : ℕ). Long b i c) four ∙ e)))
-    command (OldJump t) e wi = said (λ Q k y a. k .jump s p q l _ t y a (reading-of _ e) (inl refl))
-    command (Jump t) e wi = said (λ Q k y a. k .jump s p q l _ t y a (reading-of _ e) (inr refl))
+        let four : n ≡ 4 * (n / 4) = omega (arith, wi .2) in
+        says (λ Q k y a. k .long s p q l b (n / 4) c y a (reading-of _ e refl (ap (λ (i : ℕ). b ∷ i ∷ c ∷ []) four)))
+    command (OldJump t) e wi = says (λ Q k y a. k .jump s p q l 6 t y a (reading-of _ e refl refl) (inl refl))
+    command (Jump t) e wi = says (λ Q k y a. k .jump s p q l 7 t y a (reading-of _ e refl refl) (inr refl))
     command (Call t) e wi =
-        by-active (λ on. said (λ Q k y a. k .call-inside s p q l t y a (reading-of _ e) on)) (λ off. said (λ Q k y a. k .call s p q l t y a (reading-of _ e) off))
-    command Reserved e wi = said (λ Q k y a. k .reserved s p q l _ y a (reading-of _ e) (omega arith))
-    command (Refused n) e wi = said (λ Q k y a. k .reserved s p q l _ y a (reading-of _ e) (omega arith))
+        by-active (λ on. fails (λ Q k y a. k .call-inside s p q l t y a (reading-of _ e refl refl) on))
+        (λ off. says (λ Q k y a. k .call s p q l t y a (reading-of _ e refl refl) off))
+    command Reserved e wi = fails (λ Q k y a. k .reserved s p q l _ _ y a (reading-of _ e refl refl) (omega arith))
+    command (Refused n) e wi = fails (λ Q k y a. k .reserved s p q l _ _ y a (reading-of _ e refl refl) (omega arith))
 
   -- a word, by whether a count is awaited and whether parameters are left
-  word : (w : ℕ) → WordRead s p l w → Moves s p l r
-  word w rd = go (p .run .awaited) (eqb (p .run .count) 0) refl refl
+  word : ReadsWord s p l → Moves s p l r
+  word rd = go (p .run .awaited) (eqb (p .run .count) 0) refl refl
     where
       go : (a z : Bool) → p .run .awaited ≡ a → eqb (p .run .count) 0 ≡ z → Moves s p l r
-      go true z e f = said (λ Q k y a. k .count s p q l w y a rd (past-of s p) e)
-      go false true e f = command w rd e (eqb-true _ _ f) _ refl (widths (s .setting) w 0 _ refl)
-      go false false e f = parameter w (record { read = rd; past = past-of s p; unawaited = e; left = eqb-false _ _ f })
+      go true z e f = says (λ Q k y a. k .count s p q l _ y a (record { word = rd; awaited = e }) refl (past-of s p))
+      go false true e f =
+          command _ refl (record { word = rd; unawaited = e; none-left = eqb-true _ _ f }) _ refl (widths (s .setting) _ 0 _ refl)
+      go false false e f =
+          parameter _ (record { read = record { word = rd; unawaited = e; left = eqb-false _ _ f }; word = refl; past = past-of s p })
 
   unread : Running p → (p .get ≡ p .put → ⊥) → Moves s p l r
   unread run n = go (ltb (s .limit) (p .get)) (leb (length (l .words)) (p .get / 4)) refl refl
     where
       go : (a b : Bool) → ltb (s .limit) (p .get) ≡ a → leb (length (l .words)) (p .get / 4) ≡ b → Moves s p l r
-      go true b e f = said (λ Q k y a. k .protection s p l y a run n (inl (ltb-true _ _ e)))
-      go false true e f = said (λ Q k y a. k .protection s p l y a run n (inr (leb-true _ _ f)))
-      go false false e f = word _ (record { running = run; unequal = n; limit = ltb-false _ _ e; lent = leb-false _ _ f; word = refl })
+      go true b e f = fails (λ Q k y a. k .protection s p l y a run n (inl (ltb-true _ _ e)))
+      go false true e f = fails (λ Q k y a. k .protection s p l y a run n (inr (leb-true _ _ f)))
+      go false false e f = word (record { running = run; unequal = n; limit = ltb-false _ _ e; lent = leb-false _ _ f })
 
   -- an entry
   entry : EntryNext s p → Moves s p l r
@@ -240,20 +256,23 @@ module _ (R : Setup → Pusher → PusherLoan → Pushed → Type 0) (h : Senten
             next = nx;
             lent = lent;
             entry = refl;
-            rises = λ o. rw (choose-false (le-ltb 12 (s .order) o) 12 (s .order));
-            rises-over = λ o. rw (choose-true (lt-ltb 12 (s .order) o) 12 (s .order));
+            rises =
+                record {
+                  within = λ o. rw (choose-false (le-ltb 12 (s .order) o) 12 (s .order));
+                  over = λ o. rw (choose-true (lt-ltb 12 (s .order) o) 12 (s .order));
+                };
           }
 
       there : p .ib .get < length (l .entries) → (a b : Bool) → eqb (sizeIn e) 0 ≡ a → eqb (e / 2 ^ 41 % 2) 1 ≡ b → Moves s p l r
-      there lent true b z f = said (λ Q k y a. k .empty-entry s p l e i y a (rd lent) (eqb-true _ _ z))
-      there lent false true z f = said (λ Q k y a. k .entry-not-main s p l e i y a (rd lent) (eqb-false _ _ z) (eqb-true _ _ f))
+      there lent true b z f = fails (λ Q k y a. k .empty-entry s p l e i y a (rd lent) (eqb-true _ _ z))
+      there lent false true z f = says (λ Q k y a. k .entry-not-main s p l e i y a (rd lent) (eqb-false _ _ z) (eqb-true _ _ f))
       there lent false false z f =
           let n = eqb-false (e / 2 ^ 41 % 2) 1 f in
           let o : e / 2 ^ 41 % 2 ≡ 0 = omega arith in
-          said (λ Q k y a. k .entry-main s p l e i y a (rd lent) (eqb-false _ _ z) o)
+          says (λ Q k y a. k .entry-main s p l e i y a (rd lent) (eqb-false _ _ z) o)
 
       go : (b : Bool) → leb (length (l .entries)) (p .ib .get) ≡ b → Moves s p l r
-      go true f = said (λ Q k y a. k .no-entry s p l y a nx (leb-true _ _ f))
+      go true f = fails (λ Q k y a. k .no-entry s p l y a nx (leb-true _ _ f))
       go false f = there (leb-false _ _ f) _ _ refl refl
 
   moved :
@@ -263,14 +282,46 @@ module _ (R : Setup → Pusher → PusherLoan → Pushed → Type 0) (h : Senten
       → eqb (s .setting .mode .number) 1 ≡ c
       → eqb (p .ib .get) (p .ib .put) ≡ d
       → Moves s p l r
-  moved false b c d e f g i = said (λ Q k y a. k .stopped s p l y a (eqb-false _ _ e))
+  moved false b c d e f g i = says (λ Q k y a. k .stopped s p l y a (eqb-false _ _ e))
   moved true false c d e f g i = unread (eqb-true _ _ e) (eqb-false _ _ f)
-  moved true true false d e f g i = said (λ Q k y a. k .idle s p l y a (eqb-true _ _ e) (eqb-true _ _ f) (inl (eqb-false (s .setting .mode .number) 1 g)))
-  moved true true true true e f g i = said (λ Q k y a. k .idle s p l y a (eqb-true _ _ e) (eqb-true _ _ f) (inr (eqb-true (p .ib .get) (p .ib .put) i)))
+  moved true true false d e f g i = says (λ Q k y a. k .idle s p l y a (eqb-true _ _ e) (eqb-true _ _ f) (inl (eqb-false (s .setting .mode .number) 1 g)))
+  moved true true true true e f g i = says (λ Q k y a. k .idle s p l y a (eqb-true _ _ e) (eqb-true _ _ f) (inr (eqb-true (p .ib .get) (p .ib .put) i)))
   moved true true true false e f g i = entry (record { running = eqb-true _ _ e; equal = eqb-true _ _ f; ib = eqb-true _ _ g; unequal = eqb-false _ _ i })
 
 pub no-other : NoOther
 no-other R h s p l r m = moved R h s p l r m _ _ _ _ refl refl refl refl
+
+pub errors : Errors
+unfolding number
+errors =
+    record {
+      none = refl;
+      call = refl;
+      non-cache = refl;
+      return = refl;
+      reserved-cmd = refl;
+      ib = refl;
+      protection = refl;
+      stopped = λ p a h. (λ on run. false≢true (sym (runs (p .error) run) ∙ sym h ∙ on), λ n. h ∙ stands (p .error) n);
+    }
+
+pub setters : Setters
+setters =
+    record {
+      get = λ p a. refl;
+      put = λ p a. refl;
+      run = λ p r. refl;
+      count = λ r c. refl;
+      method = λ r n. refl;
+      awaited = λ r a. refl;
+      subroutine = λ p a b. refl;
+      ib = λ p g q. refl;
+      main = λ p m. refl;
+      active = λ p a. refl;
+    }
+
+pub lends : Lends
+lends = record { words = λ ws es. refl; entries = λ ws es. refl }
 
 pub one : One
 one = record { push = λ s p l a b x y. one-outcome x y; number = λ e a b x y. one-outcome x y; stopped = λ p a b x y. one-outcome x y }

@@ -1,23 +1,26 @@
 -- What a move does where each of the paper's sentences applies. Assumes nothing.
 use Prim.Native.Nat.{ℕ, _+_, _/_, _%_, _^_}
-use mathlib.Core.Path.{_≡_, refl, sym, ap, _∙_}
+use mathlib.Core.Path.{_≡_, refl, sym, ap, ap₂, _∙_}
 use mathlib.Core.Bool.{Bool, true, false, not, _&&_, and-false, false≢true}
 use native.Mathlib.Omega.{arith}
 use lib.Dec.{eqb, ltb}
+use mathlib.Core.List.{List}
 use mathlib.Core.Logic.{_⊎_, ⊎-elim}
 use borrow.Author.Tests.{eq-eqb, ne-eqb, eqb-true, eqb-false, ltb-true, ltb-false}
 use Rattle.word.specs.First.{choose}
 use Rattle.word.specs.Parts.{numbersIn}
 use Rattle.word.specs.Special.{presentOf}
+use Rattle.word.specs.Reading as reading
 use Rattle.word.specs.declared.reading.Reading.{Reading}
-use Rattle.word.proofs.First.{choose-true, choose-false, by-test}
+use Rattle.word.proofs.First.{one-outcome, choose-true, choose-false, by-test}
+use Rattle.word.proofs.Told.{told}
 use Rattle.event.specs.declared.Kind.the-variants as kind
 use Rattle.event.specs.declared.Event.the-variants.{Of}
 use Rattle.pusher.specs.Loan.{PusherLoan}
 use Rattle.pusher.specs.Record.{number, halts, withGet, withRun, withMain, withIb}
 use Rattle.pusher.specs.Entry.{parts, entryOf}
 use Rattle.pusher.specs.Moving.{Role, counts, submits, commands, enters, wordRole, role, act, pushOf, follows, advanced, counted, quietly, failedBy, parameterOf, usedUp, rises, methodOf, commanded, nextIndex, entered, prepared}
-use Rattle.pusher.specs.Promises.{WordRead, Past, ParameterRead, CommandRead, Rises, lessOne, EntryRead, addressIn, sizeIn, atEntry}
+use Rattle.pusher.specs.Promises.{ReadsWord, ReadsCount, ReadsParameter, ReadsCommand, IsWord, Past, ParameterRead, CommandRead, Rises, lessOne, IndexRises, EntryRead, addressIn, sizeIn, atEntry}
 use Rattle.pusher.specs.declared.record.Setup.{Setup}
 use Rattle.pusher.specs.declared.record.Run.{Run}
 use Rattle.pusher.specs.declared.record.PusherError.{PusherError}
@@ -46,20 +49,30 @@ module _ (s : Setup) (p : Pusher) where
   unfolding advanced
   leave e = choose-false e _ _
 
+  -- dma_mget follows in IB mode, where the words are main
+  outside-ib : eqb (s .setting .mode .number) 1 ≡ false → follows s p ≡ false
+  outside-ib e = ap (λ (ib : Bool). ib && not (p .main .nonmain)) e
+
+  outside-main : p .main .nonmain ≡ true → follows s p ≡ false
+  outside-main f = rw (f, and-false)
+
+  in-main : eqb (s .setting .mode .number) 1 ≡ true → p .main .nonmain ≡ false → follows s p ≡ true
+  in-main e f = ap₂ (λ (ib nonmain : Bool). ib && not nonmain) e f
+
   pub past-is : (q : Pusher) → Past s p q → q ≡ advanced s p
   past-is q h = go (eqb (s .setting .mode .number) 1) (p .main .nonmain) refl refl
     where
       go : (a b : Bool) → eqb (s .setting .mode .number) 1 ≡ a → p .main .nonmain ≡ b → q ≡ advanced s p
-      go true true e f = h .not-main f ∙ sym (leave (rw (e, f)))
-      go true false e f = h .main (eqb-true _ _ e) f ∙ (rw f) ∙ sym (follow (rw (e, f)))
-      go false b e f = h .nv04-style (eqb-false _ _ e) ∙ sym (leave (rw e))
+      go true true e f = h .not-main f ∙ sym (leave (outside-main f))
+      go true false e f = h .main (eqb-true _ _ e) f ∙ (rw f) ∙ sym (follow (in-main e f))
+      go false b e f = h .nv04-style (eqb-false _ _ e) ∙ sym (leave (outside-ib e))
 
   pub past-of : Past s p (advanced s p)
   past-of =
       record {
-        nv04-style = λ n. leave (rw (ne-eqb (s .setting .mode .number) 1 n));
-        not-main = λ f. leave (rw (f, and-false));
-        main = λ m f. follow (rw (eq-eqb (s .setting .mode .number) 1 m, f)) ∙ rw f;
+        nv04-style = λ n. leave (outside-ib (ne-eqb _ _ n));
+        not-main = λ f. leave (outside-main f);
+        main = λ m f. follow (in-main (eq-eqb _ _ m) f) ∙ rw f;
       }
 
   -- it has the read address four higher, and the same run, subroutine and SLI
@@ -85,25 +98,32 @@ module _ (s : Setup) (p : Pusher) (l : PusherLoan) where
   by-role x e = ap (λ (y : Role). act s p l y) e
 
   -- a word read: as a count, as a parameter, as a command
-  word-role : (w : ℕ) → WordRead s p l w → role s p l ≡ wordRole s p (l .words)
-  word-role w h = when-words s p l (runs (p .error) (h .running)) (h .unequal)
+  word-role : ReadsWord s p l → role s p l ≡ wordRole s p (l .words)
+  word-role h = when-words s p l (runs (p .error) (h .running)) (h .unequal)
 
-  pub count-is : (q : Pusher) (w : ℕ) → WordRead s p l w → Past s p q → p .run .awaited ≡ true → pushOf s p l ≡ counted q w
+  count-role : ReadsCount s p l → role s p l ≡ counts
+  count-role h = word-role (h .word) ∙ awaits-count s p (l .words) (h .word .limit) (h .word .lent) (h .awaited)
+
+  pub parameter-role : ReadsParameter s p l → role s p l ≡ submits
+  parameter-role h = word-role (h .word) ∙ inside-run s p (l .words) (h .word .limit) (h .word .lent) (h .unawaited) (h .left)
+
+  pub command-role : ReadsCommand s p l → role s p l ≡ commands
+  command-role h = word-role (h .word) ∙ between-runs s p (l .words) (h .word .limit) (h .word .lent) (h .unawaited) (h .none-left)
+
+  pub count-is : (q : Pusher) (w : ℕ) → ReadsCount s p l → IsWord p l w → Past s p q → pushOf s p l ≡ counted q w
   unfolding act
-  count-is q w h past a =
-      by-role counts (word-role w h ∙ awaits-count s p (l .words) (h .limit) (h .lent) a) ∙ rw (past-is s p q past, h .word)
+  count-is q w h e past = by-role counts (count-role h) ∙ rw (past-is s p q past, e)
 
   pub parameter-is : (q : Pusher) (w : ℕ) → ParameterRead s p q l w → pushOf s p l ≡ parameterOf s q w
   unfolding act
-  parameter-is q w h =
-      by-role submits (word-role w (h .read) ∙ inside-run s p (l .words) (h .read .limit) (h .read .lent) (h .unawaited) (h .left))
-      ∙ rw (past-is s p q (h .past), h .read .word)
+  parameter-is q w h = by-role submits (parameter-role (h .read)) ∙ rw (past-is s p q (h .past), h .word)
 
-  pub command-is : (q : Pusher) (x : Reading) → CommandRead s p q l x → pushOf s p l ≡ commanded q x
+  -- the command is the one that has its number and values
+  pub command-is : (q : Pusher) (x : Reading) {k : ℕ} {ns : List ℕ} → CommandRead s p q l k ns → reading.number x ≡ k → reading.values x ≡ ns → pushOf s p l ≡ commanded q x
   unfolding act
-  command-is q x h =
-      by-role commands (word-role (h .word) (h .read) ∙ between-runs s p (l .words) (h .read .limit) (h .read .lent) (h .unawaited) (h .none-left))
-      ∙ rw (past-is s p q (h .past), h .reads, h .read .word)
+  command-is q x h n v =
+      let command : x ≡ h .command = told x (h .command) (one-outcome n (h .number)) (one-outcome v (h .values)) in
+      by-role commands (command-role (h .read)) ∙ rw (past-is s p q (h .past), command, h .reads, h .is-word)
 
 -- a parameter
 module _ (s : Setup) (q : Pusher) (w : ℕ) where
@@ -127,23 +147,23 @@ taken true true h = refl
 taken true false h = absurd (⊎-elim (λ e. false≢true (sym e)) (λ e. false≢true e) h)
 
 -- the method after a parameter
-pub rises-is : (r : Run) (n : ℕ) → Rises r n → choose (r .increasing) ((r .method + 1) % 2048) (r .method) ≡ n
-rises-is r n h = by-test (λ (x : ℕ). x ≡ n) (λ e. sym (h .increasing e)) (λ e. sym (h .other e))
+rises-is : (q : Pusher) (n : ℕ) → Rises (q .run) n → rises q ≡ n
+rises-is q n h = by-test (λ (x : ℕ). x ≡ n) (λ e. sym (h .increasing e)) (λ e. sym (h .other e))
 
 pub rises-of : (r : Run) → Rises r (choose (r .increasing) ((r .method + 1) % 2048) (r .method))
 rises-of r = record { increasing = λ e. choose-true e _ _; other = λ e. choose-false e _ _ }
 
 pub used-up-is : (q : Pusher) (r : Run) (n : ℕ) → q .run ≡ r → Rises r n → usedUp q ≡ withRun q (lessOne r n)
-used-up-is q r n e h = rw (e, rises-is r n h)
+used-up-is q r n e h = rw (rises-is q n (rw e h), e)
 
 -- the ring of entries
-pub following-is : (s : Setup) (p : Pusher) (l : PusherLoan) (e i : ℕ) → EntryRead s p l e i → nextIndex (s .order) (p .ib .get) ≡ i
+pub rises-to : (s : Setup) (p : Pusher) (i : ℕ) → IndexRises s p i → nextIndex (s .order) (p .ib .get) ≡ i
 unfolding nextIndex
-following-is s p l e i h = go (ltb 12 (s .order)) refl
+rises-to s p i h = go (ltb 12 (s .order)) refl
   where
     go : (b : Bool) → ltb 12 (s .order) ≡ b → (p .ib .get + 1) % 2 ^ choose (ltb 12 (s .order)) 12 (s .order) ≡ i
-    go true e = rw (choose-true e 12 (s .order)) (sym (h .rises-over (ltb-true _ _ e)))
-    go false e = rw (choose-false e 12 (s .order)) (sym (h .rises (ltb-false _ _ e)))
+    go true e = rw (choose-true e 12 (s .order)) (sym (h .over (ltb-true _ _ e)))
+    go false e = rw (choose-false e 12 (s .order)) (sym (h .within (ltb-false _ _ e)))
 
 -- an entry that is there
 module _ (s : Setup) (p : Pusher) (l : PusherLoan) (e i : ℕ) (h : EntryRead s p l e i) where
@@ -152,7 +172,7 @@ module _ (s : Setup) (p : Pusher) (l : PusherLoan) (e i : ℕ) (h : EntryRead s 
   entry-is =
       by-role s p l enters
       (when-entries s p l (runs (p .error) (h .next .running)) (h .next .equal) (h .next .ib) (h .next .unequal) ∙ at-entry p (l .entries) (h .lent))
-      ∙ rw (following-is s p l e i h, h .entry)
+      ∙ rw (rises-to s p i (h .rises), h .entry)
 
 module _ (p : Pusher) (e : ℕ) where
   prepared-not-main : e / 2 ^ 41 % 2 ≡ 1 → prepared p (entryOf e) ≡ atEntry p e true (p .main .mget)

@@ -1,11 +1,13 @@
 -- A move keeps the widths and alignments of the pusher. Assumes nothing.
 use Prim.Native.Nat.{ℕ, _+_, _*_, _/_, _%_, _^_, _≤_, _<_}
-use mathlib.Core.Path.{_≡_, refl}
+use mathlib.Core.Path.{_≡_, refl, ap}
 use mathlib.Core.Bool.{Bool, true, false}
+use mathlib.Core.List.{List}
+use mathlib.Core.Logic.{_↔_}
 use native.Mathlib.Nat.{mod-lt}
 use native.Mathlib.Omega.{arith}
 use lib.Dec.{ltb}
-use lib.ListN.{length}
+use lib.ListN.{length, getD}
 use lib.Pow.{pow-pos}
 use borrow.Author.Tests.{le-ltb}
 use Rattle.word.specs.First.{choose}
@@ -16,14 +18,18 @@ use Rattle.word.specs.declared.reading.Reading.{Reading}
 use Rattle.word.specs.declared.reading.Reading.the-variants.{Increasing, NonIncreasing, Sli, Return, Long, OldJump, Jump, Call, Reserved, Refused}
 use Rattle.word.proofs.First.{by-test, choose-false}
 use Rattle.word.proofs.Promises.{widths}
+use Rattle.event.specs.declared.Method.{Method}
+use Rattle.event.specs.declared.Event.{Event}
 use Rattle.pusher.specs.Loan.{PusherLoan}
 use Rattle.pusher.specs.Record.{withGet, withRun, withSubroutine, withIb}
 use Rattle.pusher.specs.Entry.{parts, entryOf}
 use Rattle.pusher.specs.Moving as moving
+use Rattle.pusher.specs.Answers.{didNumber, didValues}
 use Rattle.pusher.specs.Widths.{SetUp, Narrow, Addresses, RunFits, PusherFields, PusherFits, DidFits, KeepsWidths}
 use Rattle.pusher.specs.declared.record.Setup.{Setup}
 use Rattle.pusher.specs.declared.record.Run.{Run}
 use Rattle.pusher.specs.declared.record.Pusher.{Pusher}
+use Rattle.pusher.specs.declared.moving.Did.the-variants as did
 use Rattle.pusher.specs.declared.moving.Pushed.{Pushed}
 use Rattle.pusher.proofs.Roles.{Facts, facts}
 
@@ -33,6 +39,22 @@ narrow-32 s a h = record { nv04-style = λ m. h; ib = λ m. omega arith }
 
 narrow-40 : (s : Setup) (a : ℕ) → s .setting .mode .number ≡ 1 → a < 2 ^ 40 → Narrow s a
 narrow-40 s a ib h = record { nv04-style = λ m. absurd (omega arith); ib = λ m. h }
+
+-- an event submits nothing
+event-fits : {e : Event} → DidFits (did.Event e)
+unfolding didNumber
+event-fits b m w t = let z : _≡_ {A = ℕ} 1 2 = t .number in absurd (omega arith)
+
+-- a method that is submitted fits exactly if its numbers do
+pub submit-fits : (o : Method) → DidFits (did.Submit o) ↔ ((o .subchannel < 8) × (o .parameter < 2 ^ 32))
+unfolding didNumber didValues
+submit-fits o = (
+  λ f. f (o .subchannel) (o .method) (o .parameter) (record { number = refl; values = refl }),
+  λ h b m w t.
+      let same-b : o .subchannel ≡ b = ap (λ (ns : List ℕ). getD ns 0 0) (t .values) in
+      let same-w : o .parameter ≡ w = ap (λ (ns : List ℕ). getD ns 2 0) (t .values) in
+      (rw same-b at (h .0), rw same-w at (h .1)),
+)
 
 -- what a move leaves fits
 abbrev PushedFits : Setup → Pushed → Type 0
@@ -80,31 +102,31 @@ module _ (s : Setup) where
   unfolding moving.parameterOf
   parameter p w f h =
       let after = with-run p _ f (used-up p (f .run)) in
-      by-test (PushedFits s) (λ e. (f, tt)) (λ e. by-test (PushedFits s) (λ g. (after, tt)) (λ g. (after, (f .run .subchannel, h))))
+      by-test (PushedFits s) (λ e. (f, event-fits)) (λ e. by-test (PushedFits s) (λ g. (after, event-fits)) (λ g. (after, submit-fits (moving.methodOf p w) .1 (f .run .subchannel, h))))
 
   -- a command
   begun : (p : Pusher) (c b n : ℕ) (up : Bool) → PusherFits s p → c < 0x800 → b < 8 → n < 0x2000 → PushedFits s (moving.begun p c b n up)
   unfolding moving.begun
   begun p c b n up f hc hb hn =
-      by-test (PushedFits s) (λ e. (f, tt)) (λ e. (with-run p _ f (record { count = omega arith; method = omega arith; subchannel = hb }), tt))
+      by-test (PushedFits s) (λ e. (f, event-fits)) (λ e. (with-run p _ f (record { count = omega arith; method = omega arith; subchannel = hb }), event-fits))
 
   command : (p : Pusher) (x : Reading) → PusherFits s p → Within x → PushedFits s (moving.commanded p x)
   unfolding moving.commanded moving.conditional moving.called moving.returned
   command p (Increasing c b n) f w = begun p c b n true f (w .0) (w .1) (w .2)
   command p (NonIncreasing c b n) f w = begun p c b n false f (w .0) (w .1) (w .2)
-  command p (Sli k) f w = (f, tt)
+  command p (Sli k) f w = (f, event-fits)
   command p Return f w =
-      by-test (PushedFits s) (λ e. (f, tt)) (λ e. (at-address p (p .subroutine .back) f (f .addresses .back .0) (f .addresses .back .1), tt))
-  command p (Long b n c) f w = (with-run p _ f (record { count = f .run .count; method = omega (arith, w .1); subchannel = w .0 }), tt)
-  command p (OldJump t) f w = (at-address p t f (omega (arith, w .0)) (w .1), tt)
-  command p (Jump t) f w = (at-address p t f (w .0) (w .1), tt)
+      by-test (PushedFits s) (λ e. (f, event-fits)) (λ e. (at-address p (p .subroutine .back) f (f .addresses .back .0) (f .addresses .back .1), event-fits))
+  command p (Long b n c) f w = (with-run p _ f (record { count = f .run .count; method = omega (arith, w .1); subchannel = w .0 }), event-fits)
+  command p (OldJump t) f w = (at-address p t f (omega (arith, w .0)) (w .1), event-fits)
+  command p (Jump t) f w = (at-address p t f (w .0) (w .1), event-fits)
   command p (Call t) f w =
-      by-test (PushedFits s) (λ e. (f, tt))
+      by-test (PushedFits s) (λ e. (f, event-fits))
       (λ e.
       let four : p .get % 2 ^ 32 % 4 ≡ 0 = omega (arith, f .addresses .get .1) in
-      (at-address (withSubroutine p true (p .get % 2 ^ 32)) t (with-back p true (p .get % 2 ^ 32) f (omega arith) four) (w .0) (w .1), tt))
-  command p Reserved f w = (f, tt)
-  command p (Refused n) f w = (f, tt)
+      (at-address (withSubroutine p true (p .get % 2 ^ 32)) t (with-back p true (p .get % 2 ^ 32) f (omega arith) four) (w .0) (w .1), event-fits))
+  command p Reserved f w = (f, event-fits)
+  command p (Refused n) f w = (f, event-fits)
 
   -- an entry
   entry : (p : Pusher) (e : ℕ) → SetUp s → s .setting .mode .number ≡ 1 → PusherFits s p → PushedFits s (moving.entered (withIb p (moving.nextIndex (s .order) (p .ib .get)) (p .ib .put)) (entryOf e))
@@ -115,7 +137,7 @@ module _ (s : Setup) where
       let address = e / 2 ^ 2 % 2 ^ 38 * 4 in
       let put = (address + 4 * (e / 2 ^ 42 % 2 ^ 22)) % 2 ^ 40 in
       let old = f .addresses in
-      by-test (PushedFits s) (λ z. (record { addresses = old; ib-get = next; ib-put = f .ib-put; run = f .run; mask = f .mask }, tt))
+      by-test (PushedFits s) (λ z. (record { addresses = old; ib-get = next; ib-put = f .ib-put; run = f .run; mask = f .mask }, event-fits))
       (λ z. (
         record {
           addresses =
@@ -130,21 +152,21 @@ module _ (s : Setup) where
           run = f .run;
           mask = f .mask;
         },
-        tt,
+        event-fits,
       ))
 
   -- every move
   act : (p : Pusher) (l : PusherLoan) → SetUp s → PusherFits s p → Words (l .words) → length (l .words) ≤ 1048576 → (x : moving.Role) → Facts s p l x → PushedFits s (moving.act s p l x)
   unfolding moving.act moving.counted
-  act p l u f w n moving.halted k = (f, tt)
-  act p l u f w n moving.faults k = (f, tt)
+  act p l u f w n moving.halted k = (f, event-fits)
+  act p l u f w n moving.faults k = (f, event-fits)
   act p l u f w n moving.counts k =
       let q = past p f (omega (arith, k .1 .lent)) in
-      (with-run (moving.advanced s p) _ q (record { count = omega arith; method = q .run .method; subchannel = q .run .subchannel }), tt)
+      (with-run (moving.advanced s p) _ q (record { count = omega arith; method = q .run .method; subchannel = q .run .subchannel }), event-fits)
   act p l u f w n moving.submits k = parameter _ (moving.wordAt p (l .words)) (past p f (omega (arith, k .1 .lent))) (w (p .get / 4))
   act p l u f w n moving.commands k = command _ _ (past p f (omega (arith, k .1 .lent))) (widths (s .setting) (moving.wordAt p (l .words)) 0 _ refl)
   act p l u f w n moving.enters k = entry p _ u (k .1 .ib) f
-  act p l u f w n moving.idles k = (f, tt)
+  act p l u f w n moving.idles k = (f, event-fits)
 
 pub keeps-widths : KeepsWidths
 unfolding moving.pushOf

@@ -2,6 +2,7 @@ pub mod Loan
 pub mod Record
 pub mod Entry
 pub mod Moving
+pub mod Answers
 pub mod Contracts
 pub mod Promises
 pub mod Widths

@@ -1,17 +1,17 @@
 -- Moves one after another.
 use Prim.Native.Nat.{ℕ, zero, suc}
 use mathlib.Core.Path.{_≡_}
-use mathlib.Core.List.{List}
+use mathlib.Core.List.{List, _∷_}
 use mathlib.Core.Logic.{_⊎_}
+use Rattle.event.specs.Event as event
 use Rattle.event.specs.declared.Kind.the-variants as kind
 use Rattle.event.specs.declared.Method.{Method}
-use Rattle.event.specs.declared.Event.the-variants.{Of}
 use Rattle.pusher.specs.Loan.{PusherLoan}
 use Rattle.pusher.specs.Moving.{pushOf}
+use Rattle.pusher.specs.Answers.{methodValues, Tells}
 use Rattle.pusher.specs.Contracts.{Moves}
 use Rattle.pusher.specs.declared.record.Setup.{Setup}
 use Rattle.pusher.specs.declared.record.Pusher.{Pusher}
-use Rattle.pusher.specs.declared.moving.Did.the-variants as did
 use Rattle.pusher.specs.declared.moving.Pushed.{Pushed}
 
 -- the pusher after n moves, each on what is lent
@@ -26,4 +26,4 @@ pub data Moved (s : Setup) (ws : List ℕ) (p : Pusher) : Pusher → Type 0 wher
 
 -- a move submits a method: it is handed to the puller, or discarded
 abbrev pub Submits : Pushed → Method → Type 0
-Submits x m = (x .did ≡ did.Submit m) ⊎ (x .did ≡ did.Event (Of kind.Discard m))
+Submits x m = Tells (x .did) 2 (methodValues m) ⊎ Tells (x .did) 1 (event.number kind.Discard ∷ methodValues m)

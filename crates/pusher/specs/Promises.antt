@@ -3,25 +3,27 @@
 use Prim.Native.Nat.{ℕ, _+_, _-_, _*_, _/_, _%_, _^_, _≤_, _<_}
 use mathlib.Core.Path.{_≡_}
 use mathlib.Core.Bool.{Bool, true, false}
+use mathlib.Core.List.{List, [], _∷_}
 use mathlib.Core.Logic.{_⊎_, _↔_}
 use lib.ListN.{length, getD}
 use Rattle.word.specs.Contracts.{Reads, Presents}
 use Rattle.word.specs.Reading as reading
 use Rattle.word.specs.declared.reading.Reading.{Reading}
-use Rattle.word.specs.declared.reading.Reading.the-variants.{Increasing, NonIncreasing, Sli, Return, Long, OldJump, Jump, Call}
+use Rattle.event.specs.Event as event
+use Rattle.event.specs.declared.Kind.{Kind}
 use Rattle.event.specs.declared.Kind.the-variants as kind
-use Rattle.event.specs.declared.Event.the-variants.{Of}
-use Rattle.pusher.specs.Loan.{PusherLoan}
+use Rattle.pusher.specs.Loan.{PusherLoan, toPusher}
 use Rattle.pusher.specs.Record.{number, withGet, withPut, withRun, withCount, withMethod, withAwaited, withSubroutine, withIb, withMain, withActive}
 use Rattle.pusher.specs.Entry.{entryOf}
-use Rattle.pusher.specs.Moving.{commands, submits, role, quietly, failedBy}
+use Rattle.pusher.specs.Answers.{didNumber, didValues, Tells}
 use Rattle.pusher.specs.Contracts.{Numbers, Halts, Moves}
 use Rattle.pusher.specs.declared.record.Setup.{Setup}
 use Rattle.pusher.specs.declared.record.Run.{Run}
+use Rattle.pusher.specs.declared.record.Main.{Main}
 use Rattle.pusher.specs.declared.record.PusherError.{PusherError}
 use Rattle.pusher.specs.declared.record.PusherError.the-variants as cause
 use Rattle.pusher.specs.declared.record.Pusher.{Pusher}
-use Rattle.pusher.specs.declared.moving.Did.the-variants as did
+use Rattle.pusher.specs.declared.moving.Did.{Did}
 use Rattle.pusher.specs.declared.moving.Pushed.{Pushed}
 
 -- no error has stopped the pusher
@@ -31,13 +33,33 @@ Running p = number (p .error) ≡ 0
 abbrev pub InIb : Setup → Type 0
 InIb s = s .setting .mode .number ≡ 1
 
--- "Read address unequal to put: reads one word", w, which is neither above the limit nor beyond the lent words
-pub record WordRead (s : Setup) (p : Pusher) (l : PusherLoan) (w : ℕ) : Type 0 where
+-- "Read address unequal to put: reads one word": the one at the read address, neither above the limit nor beyond the lent words
+pub record ReadsWord (s : Setup) (p : Pusher) (l : PusherLoan) : Type 0 where
   pub running : Running p
   pub unequal : p .get ≡ p .put → ⊥
   pub limit : p .get ≤ s .limit
   pub lent : p .get / 4 < length (l .words)
-  pub word : w ≡ getD (l .words) (p .get / 4) 0
+
+-- "The word is the count if a long form waits for one"
+pub record ReadsCount (s : Setup) (p : Pusher) (l : PusherLoan) : Type 0 where
+  pub word : ReadsWord s p l
+  pub awaited : p .run .awaited ≡ true
+
+-- "else a parameter while the count isn't used up"
+pub record ReadsParameter (s : Setup) (p : Pusher) (l : PusherLoan) : Type 0 where
+  pub word : ReadsWord s p l
+  pub unawaited : p .run .awaited ≡ false
+  pub left : p .run .count ≡ 0 → ⊥
+
+-- "else a command"
+pub record ReadsCommand (s : Setup) (p : Pusher) (l : PusherLoan) : Type 0 where
+  pub word : ReadsWord s p l
+  pub unawaited : p .run .awaited ≡ false
+  pub none-left : p .run .count ≡ 0
+
+-- w is the word at the read address
+abbrev pub IsWord : Pusher → PusherLoan → ℕ → Type 0
+IsWord p l w = w ≡ getD (l .words) (p .get / 4) 0
 
 -- "Otherwise the read address rises by 4 first": q is the pusher past the word. "When NOT_MAIN is clear, ... each advance
 -- copies the read address to it and sets its valid flag. NV04-style leaves it."
@@ -46,12 +68,11 @@ pub record Past (s : Setup) (p q : Pusher) : Type 0 where
   pub not-main : p .main .nonmain ≡ true → q ≡ withGet p (p .get + 4)
   pub main : InIb s → p .main .nonmain ≡ false → q ≡ withMain (withGet p (p .get + 4)) (record { nonmain = false; mget = p .get + 4; valid = true })
 
--- "else a parameter while the count isn't used up"
+-- the word w is read as a parameter, and q is the pusher past it
 pub record ParameterRead (s : Setup) (p q : Pusher) (l : PusherLoan) (w : ℕ) : Type 0 where
-  pub read : WordRead s p l w
+  pub read : ReadsParameter s p l
+  pub word : IsWord p l w
   pub past : Past s p q
-  pub unawaited : p .run .awaited ≡ false
-  pub left : p .run .count ≡ 0 → ⊥
 
 -- "an increasing method then rises by one modulo 2,048": n is the method's number after a parameter
 pub record Rises (r : Run) (n : ℕ) : Type 0 where
@@ -62,14 +83,16 @@ pub record Rises (r : Run) (n : ℕ) : Type 0 where
 abbrev pub lessOne : Run → ℕ → Run
 lessOne r n = withMethod (withCount r (r .count - 1)) n
 
--- "else a command", which reads as x
-pub record CommandRead (s : Setup) (p q : Pusher) (l : PusherLoan) (x : Reading) : Type 0 where
-  pub word : ℕ
-  pub read : WordRead s p l word
+-- a word is read as a command with the number k, its form's place in the paper's list, and these values; q is the pusher past it
+pub record CommandRead (s : Setup) (p q : Pusher) (l : PusherLoan) (k : ℕ) (ns : List ℕ) : Type 0 where
+  pub read : ReadsCommand s p l
   pub past : Past s p q
-  pub unawaited : p .run .awaited ≡ false
-  pub none-left : p .run .count ≡ 0
-  pub reads : Reads (s .setting) word 0 x
+  pub word : ℕ
+  pub is-word : IsWord p l word
+  pub command : Reading
+  pub reads : Reads (s .setting) word 0 command
+  pub number : reading.number command ≡ k
+  pub values : reading.values command ≡ ns
 
 -- two masks share a set bit
 pub record Share (a b : ℕ) : Type 0 where
@@ -84,14 +107,17 @@ pub record EntryNext (s : Setup) (p : Pusher) : Type 0 where
   pub ib : InIb s
   pub unequal : p .ib .get ≡ p .ib .put → ⊥
 
--- the entry e, which is not past the lent ones, and "ib_get rises by 1 modulo 2^ib_order" to i; an order above 12, which no
--- opening takes, would count as 12
+-- "ib_get rises by 1 modulo 2^ib_order" to i; an order above 12, which no opening takes, would count as 12
+pub record IndexRises (s : Setup) (p : Pusher) (i : ℕ) : Type 0 where
+  pub within : s .order ≤ 12 → i ≡ (p .ib .get + 1) % 2 ^ s .order
+  pub over : 12 < s .order → i ≡ (p .ib .get + 1) % 2 ^ 12
+
+-- the entry e, which is not past the lent ones, is read, and ib_get rises to i
 pub record EntryRead (s : Setup) (p : Pusher) (l : PusherLoan) (e i : ℕ) : Type 0 where
   pub next : EntryNext s p
   pub lent : p .ib .get < length (l .entries)
   pub entry : e ≡ getD (l .entries) (p .ib .get) 0
-  pub rises : s .order ≤ 12 → i ≡ (p .ib .get + 1) % 2 ^ s .order
-  pub rises-over : 12 < s .order → i ≡ (p .ib .get + 1) % 2 ^ 12
+  pub rises : IndexRises s p i
 
 -- "address bits 39-2", "size in words bits 63-42", "NOT_MAIN bit 41" of an entry
 abbrev pub addressIn : ℕ → ℕ
@@ -105,10 +131,42 @@ abbrev pub atEntry : Pusher → ℕ → Bool → ℕ → Pusher
 atEntry p e nonmain mget =
     withMain (withPut (withGet p (addressIn e)) ((addressIn e + 4 * sizeIn e) % 2 ^ 40)) (record { nonmain = nonmain; mget = mget; valid = p .main .valid })
 
+-- the move r leaves the pusher q, and did what has the number k and these values
+pub record Leaves (q : Pusher) (k : ℕ) (said : List ℕ) (r : Pushed) : Type 0 where
+  pub pusher : r .pusher ≡ q
+  pub did : Tells (r .did) k said
+
+-- it says one kind alone; discards a method, or hands it to the puller: its subchannel, byte number and parameter
+abbrev pub Says : Pusher → Kind → Pushed → Type 0
+Says q k r = Leaves q 1 (event.number k ∷ []) r
+
+abbrev pub Discards : Pusher → ℕ → ℕ → ℕ → Pushed → Type 0
+Discards q b m w r = Leaves q 1 (event.number kind.Discard ∷ b ∷ m ∷ w ∷ []) r
+
+abbrev pub HandsOver : Pusher → ℕ → ℕ → ℕ → Pushed → Type 0
+HandsOver q b m w r = Leaves q 2 (b ∷ m ∷ w ∷ []) r
+
+-- q is p stopped by the error with the number n: "1 CALL, 2 NON_CACHE, 3 RETURN, 4 RESERVED_CMD, 5 IB, 6 PROTECTION", all else as
+-- before
+pub record Failed (p : Pusher) (n : ℕ) (q : Pusher) : Type 0 where
+  pub get : q .get ≡ p .get
+  pub put : q .put ≡ p .put
+  pub run : q .run ≡ p .run
+  pub subroutine : q .subroutine ≡ p .subroutine
+  pub ib : q .ib ≡ p .ib
+  pub main : q .main ≡ p .main
+  pub sli : q .sli ≡ p .sli
+  pub error : number (q .error) ≡ n
+
+-- the move r leaves p so stopped, and says error alone
+pub record Fails (p : Pusher) (n : ℕ) (r : Pushed) : Type 0 where
+  pub pusher : Failed p n (r .pusher)
+  pub did : Tells (r .did) 1 (event.number kind.Error ∷ [])
+
 -- The sentences, of any relation R between what a move is given and what it leaves: what changes, and nothing else does.
 pub record Sentences (R : Setup → Pusher → PusherLoan → Pushed → Type 0) : Type 0 where
   -- "Stopped by an error: answers stopped, nothing changes."
-  pub stopped : (s : Setup) (p : Pusher) (l : PusherLoan) (r : Pushed) → R s p l r → (Running p → ⊥) → r ≡ quietly p kind.Stopped
+  pub stopped : (s : Setup) (p : Pusher) (l : PusherLoan) (r : Pushed) → R s p l r → (Running p → ⊥) → Says p kind.Stopped r
   -- "Idle."
   pub idle :
       (s : Setup) (p : Pusher) (l : PusherLoan) (r : Pushed)
@@ -116,7 +174,7 @@ pub record Sentences (R : Setup → Pusher → PusherLoan → Pushed → Type 0)
       → Running p
       → p .get ≡ p .put
       → ((InIb s → ⊥) ⊎ (p .ib .get ≡ p .ib .put))
-      → r ≡ quietly p kind.Idle
+      → Says p kind.Idle r
   -- "A word at address g faults with PROTECTION if g is above dma_limit, in either mode, or beyond the lent words; g stays."
   pub protection :
       (s : Setup) (p : Pusher) (l : PusherLoan) (r : Pushed)
@@ -124,22 +182,22 @@ pub record Sentences (R : Setup → Pusher → PusherLoan → Pushed → Type 0)
       → Running p
       → (p .get ≡ p .put → ⊥)
       → ((s .limit < p .get) ⊎ (length (l .words) ≤ p .get / 4))
-      → r ≡ failedBy p cause.Protection
-  -- "The word is the count if a long form waits for one": "the low 24 bits of the next word are the count"
+      → Fails p 6 r
+  -- "the low 24 bits of the next word are the count"
   pub count :
       (s : Setup) (p q : Pusher) (l : PusherLoan) (w : ℕ) (r : Pushed)
       → R s p l r
-      → WordRead s p l w
+      → ReadsCount s p l
+      → IsWord p l w
       → Past s p q
-      → p .run .awaited ≡ true
-      → r ≡ quietly (withRun q (withAwaited (withCount (p .run) (w % 2 ^ 24)) false)) kind.Count
+      → Says (withRun q (withAwaited (withCount (p .run) (w % 2 ^ 24)) false)) kind.Count r
   -- "A method below 0x100 that the level lacks is NON_CACHE, tested before SLI discard."
   pub non-cache :
       (s : Setup) (p q : Pusher) (l : PusherLoan) (w : ℕ) (r : Pushed)
       → R s p l r
       → ParameterRead s p q l w
       → Presents (s .setting .level) (p .run .method) false
-      → r ≡ failedBy q cause.NonCache
+      → Fails q 2 r
   -- "If SLI is enabled and not active, the method is discarded"
   pub discard :
       (s : Setup) (p q : Pusher) (l : PusherLoan) (w n : ℕ) (r : Pushed)
@@ -149,11 +207,7 @@ pub record Sentences (R : Setup → Pusher → PusherLoan → Pushed → Type 0)
       → Presents (s .setting .level) (p .run .method) true
       → s .setting .sli ≡ true
       → p .sli .active ≡ false
-      → r
-      ≡ record {
-        pusher = withRun q (lessOne (p .run) n);
-        did = did.Event (Of kind.Discard (record { subchannel = p .run .subchannel; method = 4 * p .run .method; parameter = w }));
-      }
+      → Discards (withRun q (lessOne (p .run) n)) (p .run .subchannel) (4 * p .run .method) w r
   -- "Each parameter submits its method": "else the puller takes it in the same step"
   pub submit :
       (s : Setup) (p q : Pusher) (l : PusherLoan) (w n : ℕ) (r : Pushed)
@@ -162,101 +216,97 @@ pub record Sentences (R : Setup → Pusher → PusherLoan → Pushed → Type 0)
       → Rises (p .run) n
       → Presents (s .setting .level) (p .run .method) true
       → ((s .setting .sli ≡ false) ⊎ (p .sli .active ≡ true))
-      → r
-      ≡ record {
-        pusher = withRun q (lessOne (p .run) n);
-        did = did.Submit (record { subchannel = p .run .subchannel; method = 4 * p .run .method; parameter = w });
-      }
+      → HandsOver (withRun q (lessOne (p .run) n)) (p .run .subchannel) (4 * p .run .method) w r
   -- "A command with count 0 does nothing."
   pub nothing :
-      (s : Setup) (p q : Pusher) (l : PusherLoan) (x : Reading) (b m : ℕ) (r : Pushed)
+      (s : Setup) (p q : Pusher) (l : PusherLoan) (k b m : ℕ) (r : Pushed)
       → R s p l r
-      → CommandRead s p q l x
-      → ((x ≡ Increasing 0 b m) ⊎ (x ≡ NonIncreasing 0 b m))
-      → r ≡ quietly q kind.Command
+      → CommandRead s p q l k (0 ∷ b ∷ m ∷ [])
+      → ((k ≡ 1) ⊎ (k ≡ 2))
+      → Says q kind.Command r
   -- "increasing. Count ..., subchannel ..., method"
   pub increasing :
       (s : Setup) (p q : Pusher) (l : PusherLoan) (c b n : ℕ) (r : Pushed)
       → R s p l r
-      → CommandRead s p q l (Increasing c b (4 * n))
+      → CommandRead s p q l 1 (c ∷ b ∷ 4 * n ∷ [])
       → (c ≡ 0 → ⊥)
-      → r ≡ quietly (withRun q (record { count = c; method = n; subchannel = b; increasing = true; awaited = false })) kind.Command
+      → Says (withRun q (record { count = c; method = n; subchannel = b; increasing = true; awaited = false })) kind.Command r
   pub non-increasing :
       (s : Setup) (p q : Pusher) (l : PusherLoan) (c b n : ℕ) (r : Pushed)
       → R s p l r
-      → CommandRead s p q l (NonIncreasing c b (4 * n))
+      → CommandRead s p q l 2 (c ∷ b ∷ 4 * n ∷ [])
       → (c ≡ 0 → ⊥)
-      → r ≡ quietly (withRun q (record { count = c; method = n; subchannel = b; increasing = false; awaited = false })) kind.Command
+      → Says (withRun q (record { count = c; method = n; subchannel = b; increasing = false; awaited = false })) kind.Command r
   -- "long non-increasing", which then waits for its count
   pub long :
       (s : Setup) (p q : Pusher) (l : PusherLoan) (b n c : ℕ) (r : Pushed)
       → R s p l r
-      → CommandRead s p q l (Long b (4 * n) c)
-      → r ≡ quietly (withRun q (record { count = 0; method = n; subchannel = b; increasing = false; awaited = true })) kind.Command
+      → CommandRead s p q l 5 (b ∷ 4 * n ∷ c ∷ [])
+      → Says (withRun q (record { count = 0; method = n; subchannel = b; increasing = false; awaited = true })) kind.Command r
   -- "An SLI conditional sets sli_active exactly if its mask and the channel's share a set bit, else clears it."
   pub sli :
-      (s : Setup) (p q : Pusher) (l : PusherLoan) (k : ℕ) (active : Bool) (r : Pushed)
+      (s : Setup) (p q : Pusher) (l : PusherLoan) (mask : ℕ) (active : Bool) (r : Pushed)
       → R s p l r
-      → CommandRead s p q l (Sli k)
-      → active ≡ true ↔ Share k (p .sli .mask)
-      → r ≡ quietly (withActive q active) kind.Command
+      → CommandRead s p q l 3 (mask ∷ [])
+      → active ≡ true ↔ Share mask (p .sli .mask)
+      → Says (withActive q active) kind.Command r
   -- "Jump, call and return are as in document 004": "jump [sets dma_get to param]",
   pub jump :
-      (s : Setup) (p q : Pusher) (l : PusherLoan) (x : Reading) (t : ℕ) (r : Pushed)
+      (s : Setup) (p q : Pusher) (l : PusherLoan) (k t : ℕ) (r : Pushed)
       → R s p l r
-      → CommandRead s p q l x
-      → ((x ≡ OldJump t) ⊎ (x ≡ Jump t))
-      → r ≡ quietly (withGet q t) kind.Command
+      → CommandRead s p q l k (t ∷ [])
+      → ((k ≡ 6) ⊎ (k ≡ 7))
+      → Says (withGet q t) kind.Command r
   -- "call [copies dma_get to subr_return, sets subr_active and sets dma_get to param]": the address past the call's word;
   pub call :
       (s : Setup) (p q : Pusher) (l : PusherLoan) (t : ℕ) (r : Pushed)
       → R s p l r
-      → CommandRead s p q l (Call t)
+      → CommandRead s p q l 8 (t ∷ [])
       → p .subroutine .active ≡ false
-      → r ≡ quietly (withGet (withSubroutine q true ((p .get + 4) % 2 ^ 32)) t) kind.Command
+      → Says (withGet (withSubroutine q true ((p .get + 4) % 2 ^ 32)) t) kind.Command r
   -- "1 CALL: call command while subroutine active". "Errors 1 to 4 leave the read address past the word, dma_mget following it
   -- by the rule below, all else as before."
   pub call-inside :
       (s : Setup) (p q : Pusher) (l : PusherLoan) (t : ℕ) (r : Pushed)
       → R s p l r
-      → CommandRead s p q l (Call t)
+      → CommandRead s p q l 8 (t ∷ [])
       → p .subroutine .active ≡ true
-      → r ≡ failedBy q cause.Call
+      → Fails q 1 r
   -- "return [unsets subr_active, copies subr_return to dma_get]";
   pub return :
       (s : Setup) (p q : Pusher) (l : PusherLoan) (r : Pushed)
       → R s p l r
-      → CommandRead s p q l Return
+      → CommandRead s p q l 4 []
       → p .subroutine .active ≡ true
-      → r ≡ quietly (withGet (withSubroutine q false (p .subroutine .back)) (p .subroutine .back)) kind.Command
+      → Says (withGet (withSubroutine q false (p .subroutine .back)) (p .subroutine .back)) kind.Command r
   -- "3 RETURN: return command while subroutine inactive"
   pub return-outside :
       (s : Setup) (p q : Pusher) (l : PusherLoan) (r : Pushed)
       → R s p l r
-      → CommandRead s p q l Return
+      → CommandRead s p q l 4 []
       → p .subroutine .active ≡ false
-      → r ≡ failedBy q cause.Return
+      → Fails q 3 r
   -- "4 RESERVED_CMD": reserved, number 9, and the reading at a setting that is refused, number 10
   pub reserved :
-      (s : Setup) (p q : Pusher) (l : PusherLoan) (x : Reading) (r : Pushed)
+      (s : Setup) (p q : Pusher) (l : PusherLoan) (k : ℕ) (ns : List ℕ) (r : Pushed)
       → R s p l r
-      → CommandRead s p q l x
-      → 9 ≤ reading.number x
-      → r ≡ failedBy q cause.ReservedCmd
+      → CommandRead s p q l k ns
+      → 9 ≤ k
+      → Fails q 4 r
   -- "An index past the lent entries is PROTECTION and ib_get stays."
   pub no-entry :
       (s : Setup) (p : Pusher) (l : PusherLoan) (r : Pushed)
       → R s p l r
       → EntryNext s p
       → length (l .entries) ≤ p .ib .get
-      → r ≡ failedBy p cause.Protection
+      → Fails p 6 r
   -- "Size 0: error IB after that rise, nothing else changes."
   pub empty-entry :
       (s : Setup) (p : Pusher) (l : PusherLoan) (e i : ℕ) (r : Pushed)
       → R s p l r
       → EntryRead s p l e i
       → sizeIn e ≡ 0
-      → r ≡ failedBy (withIb p i (p .ib .put)) cause.Ib
+      → Fails (withIb p i (p .ib .put)) 5 r
   -- "Put is address plus 4 times size modulo 2^40."
   pub entry-not-main :
       (s : Setup) (p : Pusher) (l : PusherLoan) (e i : ℕ) (r : Pushed)
@@ -264,7 +314,7 @@ pub record Sentences (R : Setup → Pusher → PusherLoan → Pushed → Type 0)
       → EntryRead s p l e i
       → (sizeIn e ≡ 0 → ⊥)
       → e / 2 ^ 41 % 2 ≡ 1
-      → r ≡ quietly (atEntry (withIb p i (p .ib .put)) e true (p .main .mget)) kind.Entry
+      → Says (atEntry (withIb p i (p .ib .put)) e true (p .main .mget)) kind.Entry r
   -- "When NOT_MAIN is clear, dma_mget takes the address"
   pub entry-main :
       (s : Setup) (p : Pusher) (l : PusherLoan) (e i : ℕ) (r : Pushed)
@@ -272,7 +322,7 @@ pub record Sentences (R : Setup → Pusher → PusherLoan → Pushed → Type 0)
       → EntryRead s p l e i
       → (sizeIn e ≡ 0 → ⊥)
       → e / 2 ^ 41 % 2 ≡ 0
-      → r ≡ quietly (atEntry (withIb p i (p .ib .put)) e false (addressIn e)) kind.Entry
+      → Says (atEntry (withIb p i (p .ib .put)) e false (addressIn e)) kind.Entry r
 
 -- Promise 2, for the pusher: `push` does what the sentences say,
 abbrev pub Pushes : Type 0
@@ -287,23 +337,61 @@ NoOther =
     → R s p l r
     → Moves s p l r
 
--- "Errors 1 to 4 leave the read address past the word, dma_mget following it by the rule below, all else as before."
-abbrev pub Failing : Type 0
-Failing =
-    (s : Setup) (p q : Pusher) (l : PusherLoan) (r : Pushed)
-    → Moves s p l r
-    → Running p
-    → 1 ≤ number (r .pusher .error)
-    → number (r .pusher .error) ≤ 4
-    → Past s p q
-    → r ≡ failedBy q (r .pusher .error)
+-- What a move leaves of a running pusher where it leaves an error: no more changes than the advance of that move.
+pub record Failing : Type 0 where
+  -- "Errors 1 to 4 leave the read address past the word, dma_mget following it by the rule below, all else as before."
+  pub word :
+      (s : Setup) (p q : Pusher) (l : PusherLoan) (r : Pushed)
+      → Moves s p l r
+      → Running p
+      → 1 ≤ number (r .pusher .error)
+      → number (r .pusher .error) ≤ 4
+      → Past s p q
+      → Fails q (number (r .pusher .error)) r
+  -- "Size 0: error IB after that rise, nothing else changes."
+  pub entry :
+      (s : Setup) (p : Pusher) (l : PusherLoan) (i : ℕ) (r : Pushed)
+      → Moves s p l r
+      → Running p
+      → number (r .pusher .error) ≡ 5
+      → IndexRises s p i
+      → Fails (withIb p i (p .ib .put)) 5 r
+  -- PROTECTION: "g stays", and "ib_get stays"
+  pub protection : (s : Setup) (p : Pusher) (l : PusherLoan) (r : Pushed) → Moves s p l r → Running p → number (r .pusher .error) ≡ 6 → Fails p 6 r
 
--- the word at the read address is about to be read as a command, or as a parameter: what the move's own definition goes by
-abbrev pub ReadsCommand : Setup → Pusher → PusherLoan → Type 0
-ReadsCommand s p l = role s p l ≡ commands
+-- "Pusher errors: 1 CALL, 2 NON_CACHE, 3 RETURN, 4 RESERVED_CMD, 5 IB, 6 PROTECTION", 0 for none. "Stopped by an error": `stopped`
+-- says so of each, and of none it does not.
+pub record Errors : Type 0 where
+  pub none : number cause.None ≡ 0
+  pub call : number cause.Call ≡ 1
+  pub non-cache : number cause.NonCache ≡ 2
+  pub return : number cause.Return ≡ 3
+  pub reserved-cmd : number cause.ReservedCmd ≡ 4
+  pub ib : number cause.Ib ≡ 5
+  pub protection : number cause.Protection ≡ 6
+  pub stopped : (p : Pusher) (a : Bool) → Halts p a → a ≡ true ↔ (Running p → ⊥)
 
-abbrev pub ReadsParameter : Setup → Pusher → PusherLoan → Type 0
-ReadsParameter s p l = role s p l ≡ submits
+-- The pusher, or its run, with one thing changed, as the sentences say it: that and nothing else.
+pub record Setters : Type 0 where
+  pub get : (p : Pusher) (a : ℕ) → withGet p a ≡ record { get = a; put = p .put; run = p .run; subroutine = p .subroutine; ib = p .ib; main = p .main; sli = p .sli; error = p .error }
+  pub put : (p : Pusher) (a : ℕ) → withPut p a ≡ record { get = p .get; put = a; run = p .run; subroutine = p .subroutine; ib = p .ib; main = p .main; sli = p .sli; error = p .error }
+  pub run : (p : Pusher) (r : Run) → withRun p r ≡ record { get = p .get; put = p .put; run = r; subroutine = p .subroutine; ib = p .ib; main = p .main; sli = p .sli; error = p .error }
+  pub count : (r : Run) (c : ℕ) → withCount r c ≡ record { count = c; method = r .method; subchannel = r .subchannel; increasing = r .increasing; awaited = r .awaited }
+  pub method : (r : Run) (n : ℕ) → withMethod r n ≡ record { count = r .count; method = n; subchannel = r .subchannel; increasing = r .increasing; awaited = r .awaited }
+  pub awaited : (r : Run) (a : Bool) → withAwaited r a ≡ record { count = r .count; method = r .method; subchannel = r .subchannel; increasing = r .increasing; awaited = a }
+  pub subroutine : (p : Pusher) (a : Bool) (b : ℕ) → withSubroutine p a b ≡ record { get = p .get; put = p .put; run = p .run; subroutine = record { active = a; back = b }; ib = p .ib; main = p .main; sli = p .sli; error = p .error }
+  pub ib : (p : Pusher) (g q : ℕ) → withIb p g q ≡ record { get = p .get; put = p .put; run = p .run; subroutine = p .subroutine; ib = record { get = g; put = q }; main = p .main; sli = p .sli; error = p .error }
+  pub main : (p : Pusher) (m : Main) → withMain p m ≡ record { get = p .get; put = p .put; run = p .run; subroutine = p .subroutine; ib = p .ib; main = m; sli = p .sli; error = p .error }
+  pub active : (p : Pusher) (a : Bool) → withActive p a ≡ record { get = p .get; put = p .put; run = p .run; subroutine = p .subroutine; ib = p .ib; main = p .main; sli = record { mask = p .sli .mask; active = a }; error = p .error }
+
+-- What a move did is told by its number and values: what a promise says of it, it says of them.
+abbrev pub Told : Type 0
+Told = (x y : Did) → didNumber x ≡ didNumber y → didValues x ≡ didValues y → x ≡ y
+
+-- What `push` is lent, by its own arguments, is what its contract speaks of.
+pub record Lends : Type 0 where
+  pub words : (ws es : List ℕ) → toPusher ws es .words ≡ ws
+  pub entries : (ws es : List ℕ) → toPusher ws es .entries ≡ es
 
 -- Each contract leaves one outcome.
 pub record One : Type 0 where

@@ -2,15 +2,16 @@
 use Prim.Native.Nat.{ℕ, _%_, _^_, _≤_, _<_}
 use mathlib.Core.Path.{_≡_}
 use mathlib.Core.Bool.{true}
+use mathlib.Core.List.{[], _∷_}
 use lib.ListN.{length}
 use Rattle.word.specs.Lent.{Words}
 use Rattle.pusher.specs.Loan.{PusherLoan}
+use Rattle.pusher.specs.Answers.{Tells}
 use Rattle.pusher.specs.Contracts.{Moves}
 use Rattle.pusher.specs.declared.record.Setup.{Setup}
 use Rattle.pusher.specs.declared.record.Run.{Run}
 use Rattle.pusher.specs.declared.record.Pusher.{Pusher}
 use Rattle.pusher.specs.declared.moving.Did.{Did}
-use Rattle.pusher.specs.declared.moving.Did.the-variants as did
 use Rattle.pusher.specs.declared.moving.Pushed.{Pushed}
 
 -- "a combination that 1 to 4 refuse"; "In NV04-style ib_order is held as 0, else 13"
@@ -55,8 +56,7 @@ PusherFits s p = PusherFields s (p .get) (p .put) (p .main .mget) (p .subroutine
 
 -- what a move submits fits: one of the eight subchannels, a parameter of 32 bits
 abbrev pub DidFits : Did → Type 0
-DidFits (did.Event e) = Unit {0}
-DidFits (did.Submit m) = (m .subchannel < 8) × (m .parameter < 2 ^ 32)
+DidFits d = (b m w : ℕ) → Tells d 2 (b ∷ m ∷ w ∷ []) → (b < 8) × (w < 2 ^ 32)
 
 -- Of a pusher whose numbers fit, on no more words than a step takes, a move leaves one whose numbers fit.
 abbrev pub KeepsWidths : Type 0

@@ -1,6 +1,6 @@
 -- What acceptance says, taken apart into facts. Assumes nothing.
 use Prim.Native.Nat.{ℕ, _+_, _*_, _%_, _≤_, _<_}
-use mathlib.Core.Path.{_≡_, refl, sym, ap}
+use mathlib.Core.Path.{_≡_, refl, sym, ap, _∙_}
 use mathlib.Core.Bool.{Bool, true, false, not, _&&_, false≢true}
 use mathlib.Core.List.{List}
 use mathlib.Core.Logic.{_⊎_, inl, inr, _↔_}
@@ -8,24 +8,38 @@ use mathlib.Core.Option.{Option, none, some}
 use native.Mathlib.Omega.{arith}
 use lib.Dec.{eqb}
 use lib.ListN.{length, getD}
-use borrow.Author.Tests.{eqb-true, eqb-false, eq-eqb, ne-eqb, ltb-false, le-ltb, not-false}
+use borrow.Author.Tests.{eqb-true, eqb-false, ne-eqb, ltb-false, le-ltb, not-false}
 use Rattle.word.specs.First.{choose}
 use Rattle.word.specs.Lowest.{lowest, found?}
 use Rattle.word.specs.Reading.{parameterCount}
 use Rattle.word.specs.Special.{presentOf}
 use Rattle.word.proofs.First.{by-test, choose-true}
 use Rattle.word.proofs.Lowest.{lowest-none, lowest-some, found-none}
-use Rattle.rules.specs.Permit.{permits}
 use Rattle.rules.specs.Map.{main, marked, unmarked, overThree, starts, among}
 use Rattle.rules.specs.Parameters.{placeAfter, methodsOf, methodFor, anyFails, lacking, denied}
 use Rattle.rules.specs.Next.{_in-state_}
 use Rattle.rules.specs.Reason.{reserved?, call?, return?, Submission, size, commandAt, byMap, reasonAt}
 use Rattle.rules.specs.Judging.{firstOf, placeVerdict, startVerdict, atMark, placeOf, stateOf, refusedPair, refusedAt, numberedPair, firstRefused, pairVerdict, verdictOf}
 use Rattle.rules.specs.Path.{Next}
+use Rattle.rules.specs.Promises.{Permitted}
 use Rattle.rules.specs.declared.pair.Pair.{Pair}
 use Rattle.rules.specs.declared.judging.Verdict.{Verdict}
 use Rattle.rules.specs.declared.judging.Verdict.the-variants.{Accepted, Rejected, Refused}
+use Rattle.rules.proofs.Parts.{permits-plain}
 use Rattle.rules.proofs.Cases.{Arrived, quiet}
+
+-- what holds of two verdicts holds of the first that is no acceptance; and where that is acceptance, both are
+either-first : (P : Verdict → Type 0) (v w : Verdict) → P v → P w → P (firstOf v w)
+unfolding firstOf
+either-first P Accepted w a b = b
+either-first P (Rejected r p) w a b = a
+either-first P (Refused n) w a b = a
+
+both-accept : (v w : Verdict) → firstOf v w ≡ Accepted → (v ≡ Accepted) × (w ≡ Accepted)
+unfolding firstOf
+both-accept Accepted w e = (refl, e)
+both-accept (Rejected r p) w e = let z : _≡_ {A = ℕ} 0 1 = cc in absurd (omega arith)
+both-accept (Refused n) w e = let z : _≡_ {A = ℕ} 0 1 = cc in absurd (omega arith)
 
 module _ (x : Submission) (map : List ℕ) where
   -- a pair at which a command starts by the map, or the end, in main
@@ -39,7 +53,7 @@ module _ (x : Submission) (map : List ℕ) where
     pub no-return : return? (commandAt x p) && not s ≡ false
     pub within : placeAfter (commandAt x p) p ≤ size x
     pub present : (k : ℕ) → k < parameterCount (commandAt x p) → presentOf (x .setting .level .number) (methodFor (methodsOf (commandAt x p)) k) ≡ true
-    pub allowed : (k : ℕ) → k < parameterCount (commandAt x p) → permits (x .permit) (methodsOf (commandAt x p) .subchannel) (methodFor (methodsOf (commandAt x p)) k) ≡ true
+    pub allowed : (k : ℕ) → k < parameterCount (commandAt x p) → Permitted (x .permit) (methodsOf (commandAt x p) .subchannel) (methodFor (methodsOf (commandAt x p)) k)
     pub bare : (k : ℕ) → k < parameterCount (commandAt x p) → getD map (p + 1 + k) 0 ≡ 0
     pub next : (q : ℕ) (t : Bool) → Next (commandAt x p) p s q t → Good q t
 
@@ -66,7 +80,7 @@ module _ (x : Submission) (map : List ℕ) where
         no-return = own .return-outside;
         within = ltb-false _ _ (own .short);
         present = λ k l. not-false _ (found-none _ _ (own .lacking) k l);
-        allowed = λ k l. not-false _ (found-none _ _ (own .denied) k l);
+        allowed = λ k l. permits-plain _ _ _ .0 (not-false _ (found-none _ _ (own .denied) k l));
         bare = λ k l. eqb-true _ _ (not-false _ (found-none _ _ (f .among) k l));
         next = λ q t n. arrive-good q t (f .arrivals q t n);
       }
@@ -77,18 +91,42 @@ module _ (x : Submission) (map : List ℕ) where
     pub origin : 0 < size x → marked map 0 main ≡ true
     pub quiet : (p : ℕ) (s : Bool) → p < size x → marked map p s ≡ true → reasonAt x map p s ≡ none
 
-  -- the number of a pair
+  -- the two numbers of a place are of different states,
+  two-states : (p : ℕ) → stateOf (2 * p + 1) ≡ not (stateOf (2 * p))
+  two-states p =
+      let even : 2 * p % 2 ≡ 0 = omega arith in
+      let odd : (2 * p + 1) % 2 ≡ 1 = omega arith in
+      rw (even, odd)
+
+  -- so that a pair has a number, the one of its place's two that is of its state
   pub numbered : (p : ℕ) (s : Bool) → (k : ℕ) × (placeOf k ≡ p) × (stateOf k ≡ s) × (p < size x → k < 2 * size x)
-  numbered p false = (2 * p, omega arith, ne-eqb (2 * p % 2) 1 (omega arith), λ l. omega arith)
-  numbered p true = (2 * p + 1, omega arith, eq-eqb ((2 * p + 1) % 2) 1 (omega arith), λ l. omega arith)
+  numbered p s = go (stateOf (2 * p)) refl s
+    where
+      go : (b : Bool) → stateOf (2 * p) ≡ b → (s : Bool) → (k : ℕ) × (placeOf k ≡ p) × (stateOf k ≡ s) × (p < size x → k < 2 * size x)
+      go true e true = (2 * p, omega arith, e, λ l. omega arith)
+      go true e false = (2 * p + 1, omega arith, two-states p ∙ ap not e, λ l. omega arith)
+      go false e true = (2 * p + 1, omega arith, two-states p ∙ ap not e, λ l. omega arith)
+      go false e false = (2 * p, omega arith, e, λ l. omega arith)
 
-  -- what the verdicts say where they are acceptance
-  both-accept : (v w : Verdict) → firstOf v w ≡ Accepted → (v ≡ Accepted) × (w ≡ Accepted)
-  unfolding firstOf
-  both-accept Accepted w e = (refl, e)
-  both-accept (Rejected r p) w e = let z : _≡_ {A = ℕ} 0 1 = cc in absurd (omega arith)
-  both-accept (Refused n) w e = let z : _≡_ {A = ℕ} 0 1 = cc in absurd (omega arith)
+  -- the same of the three that a judgement is made of, in whatever order they are tried
+  abbrev bytes : Verdict
+  bytes = placeVerdict (lowest (overThree map) (size x))
 
+  abbrev pairs : Verdict
+  pairs = pairVerdict (firstRefused x map)
+
+  pub one-of-three : (P : Verdict → Type 0) → P bytes → P (startVerdict map) → P pairs → P (verdictOf x map)
+  unfolding verdictOf
+  one-of-three P a b c = search (either-first P)
+
+  all-accept : verdictOf x map ≡ Accepted → (bytes ≡ Accepted) × (startVerdict map ≡ Accepted) × (pairs ≡ Accepted)
+  unfolding verdictOf
+  all-accept e =
+      let a = both-accept _ _ e in
+      let b = both-accept _ _ (a .1) in
+      (search, search, search)
+
+  -- what they say where they are acceptance
   no-place : (o : Option ℕ) → placeVerdict o ≡ Accepted → o ≡ none
   unfolding placeVerdict
   no-place none e = refl
@@ -128,14 +166,13 @@ module _ (x : Submission) (map : List ℕ) where
   )
 
   pub clean : length map ≡ size x → verdictOf x map ≡ Accepted → Clean
-  unfolding verdictOf firstRefused refusedPair
+  unfolding firstRefused refusedPair
   clean same e =
-      let a = both-accept _ _ e in
-      let b = both-accept _ _ (a .1) in
-      let passed = no-pair (lowest (refusedPair x map) (2 * size x)) refl (b .1) in
+      let a = all-accept e in
+      let passed = no-pair (lowest (refusedPair x map) (2 * size x)) refl (a .2) in
       record {
         narrow = none-wide .0 (no-place _ (a .0));
-        origin = started same (b .0);
+        origin = started same (a .1);
         quiet = λ p s l m. let k = numbered p s in pair-none p s m (rw (k .1, k .2) at (passed (k .0) (k .3 l)));
       }
 

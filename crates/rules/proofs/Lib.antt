@@ -1,3 +1,4 @@
+pub mod Answers
 pub mod Scans
 pub mod Parts
 pub mod Cases
@@ -11,6 +12,7 @@ pub mod Refusals
 pub mod Table
 pub mod Clean
 pub mod Complete
+pub mod ExactIsOne
 pub mod Counted
 pub mod Small
 pub mod Promises
@@ -19,4 +21,5 @@ pub mod Moving
 pub mod SoundMoves
 pub mod StepsAreMoves
 pub mod Sound
+pub mod BadExample
 pub mod Examples

@@ -7,15 +7,38 @@ use native.Mathlib.Omega.{arith}
 use borrow.Author.Tests.{le-leb}
 use Rattle.word.specs.First.{choose}
 use Rattle.word.specs.Lowest.{lowest, found?}
-use Rattle.word.specs.Reading.{parameterCount}
+use Rattle.word.specs.Reading.{number, values, parameterCount}
 use Rattle.word.specs.Special.{presentOf}
 use Rattle.word.specs.declared.setting.Setting.{Setting}
 use Rattle.word.specs.declared.reading.Reading.{Reading}
+use Rattle.word.specs.declared.reading.Reading.the-variants.{Increasing, NonIncreasing, Sli, Return, Long, OldJump, Jump, Call, Reserved, Refused}
 use Rattle.word.proofs.First.{by-test}
 use Rattle.word.proofs.Lowest.{none-found}
-use Rattle.rules.specs.Parameters.{methodFor, anyFails, lacking, denied}
+use Rattle.word.proofs.Told.{told}
+use Rattle.rules.specs.Parameters.{methodsOf, methodFor, anyFails, lacking, denied}
+use Rattle.rules.specs.Reasons.{GoesTo, increasing, non-increasing, long}
 use Rattle.rules.specs.declared.parameters.Methods.{Methods}
 use Rattle.rules.proofs.Scans.{Passed, onward, passes, none-passes}
+
+-- A parameter goes to the method that has its number, and to no other.
+pub goes-to : (d : Reading) (k : ℕ) → k < parameterCount d → GoesTo d k (methodsOf d .subchannel) (methodFor (methodsOf d) k)
+unfolding number values parameterCount methodsOf methodFor choose
+goes-to (Increasing c b m) k l = increasing c m refl refl l refl
+goes-to (NonIncreasing c b m) k l = non-increasing c m refl refl l refl
+goes-to (Sli s) k l = absurd (omega arith)
+goes-to Return k l = absurd (omega arith)
+goes-to (Long b m c) k l = long m c refl refl l refl
+goes-to (OldJump t) k l = absurd (omega arith)
+goes-to (Jump t) k l = absurd (omega arith)
+goes-to (Call t) k l = absurd (omega arith)
+goes-to Reserved k l = absurd (omega arith)
+goes-to (Refused r) k l = absurd (omega arith)
+
+pub goes-only : (d : Reading) (k b n : ℕ) → GoesTo d k b n → (k < parameterCount d) × (b ≡ methodsOf d .subchannel) × (n ≡ methodFor (methodsOf d) k)
+unfolding number values parameterCount methodsOf methodFor choose
+goes-only d k b n (increasing c m e v l is) = rw (told d (Increasing c b m) e v) (l, refl, is)
+goes-only d k b n (non-increasing c m e v l is) = rw (told d (NonIncreasing c b m) e v) (l, refl, is)
+goes-only d k b n (long m c e v l is) = rw (told d (Long b m c) e v) (l, refl, is)
 
 -- no level lacks a method from 0x100 up, where none of n is below
 pub above-special : (ms : Methods) (n : ℕ) → 0x40 ≤ ms .method → ms .method + n ≤ 2048 → (level : ℕ) → anyFails (presentOf level) ms n ≡ false

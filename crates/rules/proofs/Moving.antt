@@ -19,6 +19,7 @@ use Rattle.word.proofs.Promises.{widths}
 use Rattle.event.specs.declared.Kind.{Kind}
 use Rattle.event.specs.declared.Kind.the-variants as kind
 use Rattle.event.specs.declared.Method.{Method}
+use Rattle.event.specs.declared.Event.the-variants.{Of}
 use Rattle.pusher.specs.Record.{halts, withGet}
 use Rattle.pusher.specs.Loan.{PusherLoan, withWords}
 use Rattle.pusher.specs.Many.{Submits}
@@ -29,12 +30,13 @@ use Rattle.pusher.specs.declared.record.Subroutine.{Subroutine}
 use Rattle.pusher.specs.declared.record.PusherError.{PusherError}
 use Rattle.pusher.specs.declared.record.Pusher.{Pusher}
 use Rattle.pusher.specs.declared.moving.Pushed.{Pushed}
+use Rattle.pusher.proofs.Many.{submits-is}
 use Rattle.pusher.proofs.Roles.{Facts, facts}
-use Rattle.rules.specs.Permit.{permits}
 use Rattle.rules.specs.Map.{main, inside, marked}
 use Rattle.rules.specs.Parameters.{methodsOf, methodFor}
 use Rattle.rules.specs.Next.{nexts}
 use Rattle.rules.specs.Reason.{reserved?, call?, return?, Submission, size, commandAt}
+use Rattle.rules.specs.Promises.{Permitted}
 use Rattle.rules.specs.declared.parameters.Methods.{Methods}
 use Rattle.rules.proofs.Clean.{Good, Fine, fine, Clean}
 
@@ -74,7 +76,7 @@ module _ (x : Submission) (map : List ℕ) where
     pub home : sub .active ≡ true → (b : ℕ) × (sub .back ≡ 4 * b) × Good x map b main
     pub narrow : (run .count ≡ 0 → ⊥) → run .method < 2048
     pub present : (k : ℕ) → k < run .count → presentOf (x .setting .level .number) (methodFor (left run) k) ≡ true
-    pub allowed : (k : ℕ) → k < run .count → permits (x .permit) (run .subchannel) (methodFor (left run) k) ≡ true
+    pub allowed : (k : ℕ) → k < run .count → Permitted (x .permit) (run .subchannel) (methodFor (left run) k)
     pub bare : (k : ℕ) → k < run .count → getD map (place + k) 0 ≡ 0
 
   abbrev pub Inv : Pusher → Type 0
@@ -83,16 +85,15 @@ module _ (x : Submission) (map : List ℕ) where
   -- what a move leaves
   pub record After (r : Pushed) : Type 0 where
     pub pusher : Inv (r .pusher)
-    pub permitted : (m : Method) → Submits r m → permits (x .permit) (m .subchannel) (m .method / 4) ≡ true
+    pub permitted : (m : Method) → Submits r m → Permitted (x .permit) (m .subchannel) (m .method / 4)
 
   -- the method of the next parameter is permitted
-  pub run-permitted : (p : Pusher) → Inv p → (p .run .count ≡ 0 → ⊥) → permits (x .permit) (p .run .subchannel) (p .run .method) ≡ true
+  pub run-permitted : (p : Pusher) → Inv p → (p .run .count ≡ 0 → ⊥) → Permitted (x .permit) (p .run .subchannel) (p .run .method)
   run-permitted p i n = rw (first-method (p .run) (i .narrow n)) at (i .allowed 0 (omega arith))
 
   -- what a move says by itself submits nothing
   mute : (p : Pusher) (k : Kind) (m : Method) → Submits (quietly p k) m → ⊥
-  mute p k m (inl e) = let z : _≡_ {A = ℕ} 0 1 = cc in omega arith
-  mute p k m (inr e) = let z : _≡_ {A = ℕ} 0 1 = cc in omega arith
+  mute p k m s = ⊎-elim (λ e. let z : _≡_ {A = ℕ} 0 1 = cc in omega arith) (λ e. let z : _≡_ {A = ℕ} 0 1 = cc in omega arith) (submits-is _ m s)
 
   quiet-after : (p : Pusher) (k : Kind) → Inv p → After (quietly p k)
   quiet-after p k i = record { pusher = i; permitted = λ m s. absurd (mute p k m s) }
@@ -126,7 +127,7 @@ module _ (x : Submission) (map : List ℕ) where
           → m < 0x2000
           → Good x map (i .place + 1 + c) (p .subroutine .active)
           → ((k : ℕ) → k < c → presentOf (x .setting .level .number) (methodFor (record { subchannel = b; method = m / 4; increasing = up }) k) ≡ true)
-          → ((k : ℕ) → k < c → permits (x .permit) b (methodFor (record { subchannel = b; method = m / 4; increasing = up }) k) ≡ true)
+          → ((k : ℕ) → k < c → Permitted (x .permit) b (methodFor (record { subchannel = b; method = m / 4; increasing = up }) k))
           → ((k : ℕ) → k < c → getD map (i .place + 1 + k) 0 ≡ 0)
           → After (begun past c b m up)
       unfolding begun
@@ -208,7 +209,7 @@ module _ (x : Submission) (map : List ℕ) where
       unfolding advanced
       advances p = choose-false (rw (ne-eqb _ _ nv04-style)) _ _
 
-      own-permitted : (p : Pusher) (i : Inv p) → (p .run .count ≡ 0 → ⊥) → (w : ℕ) (m : Method) → methodOf p w ≡ m → permits (x .permit) (m .subchannel) (m .method / 4) ≡ true
+      own-permitted : (p : Pusher) (i : Inv p) → (p .run .count ≡ 0 → ⊥) → (w : ℕ) (m : Method) → methodOf p w ≡ m → Permitted (x .permit) (m .subchannel) (m .method / 4)
       own-permitted p i n w m e = let q : 4 * p .run .method / 4 ≡ p .run .method = omega arith in rw (← e, q) (run-permitted p i n)
 
       parameter-after : (p : Pusher) (i : Inv p) → (p .run .count ≡ 0 → ⊥) → (w : ℕ) → After (parameterOf s (withGet p (p .get + 4)) w)
@@ -223,13 +224,13 @@ module _ (x : Submission) (map : List ℕ) where
           record {
             pusher = used-up p i n;
             permitted = λ m h.
-                ⊎-elim (λ e. let z : _≡_ {A = ℕ} 0 1 = cc in absurd (omega arith)) (λ e. let q : methodOf p w ≡ m = cc in own-permitted p i n w m q) h;
+                ⊎-elim (λ e. let z : _≡_ {A = ℕ} 0 1 = cc in absurd (omega arith)) (λ e. let q : methodOf p w ≡ m = cc in own-permitted p i n w m q) (submits-is _ m h);
           })
           (λ u.
           record {
             pusher = used-up p i n;
             permitted = λ m h.
-                ⊎-elim (λ e. let q : methodOf p w ≡ m = cc in own-permitted p i n w m q) (λ e. let z : _≡_ {A = ℕ} 0 1 = cc in absurd (omega arith)) h;
+                ⊎-elim (λ e. let q : methodOf p w ≡ m = cc in own-permitted p i n w m q) (λ e. let z : _≡_ {A = ℕ} 0 1 = cc in absurd (omega arith)) (submits-is _ m h);
           }))
 
       -- a loan of these words, whatever else is in it
@@ -237,8 +238,8 @@ module _ (x : Submission) (map : List ℕ) where
       on l = withWords l (x .words)
 
       -- a place at which a command starts
-      pub starts-at : (p : Pusher) (i : Inv p) → (l : PusherLoan) → Facts s p (on l) commands → (i .place < size x) × (marked map (i .place) (p .subroutine .active) ≡ true)
-      starts-at p i l f = ⊎-elim (λ g. let h = f .1 .lent in absurd (omega (arith, i .address))) (λ g. let e : i .place + p .run .count ≡ i .place = omega arith in (omega arith, rw e at (g .1))) (i .next)
+      pub starts-at : (p : Pusher) (i : Inv p) → p .get / 4 < size x → p .run .count ≡ 0 → (i .place < size x) × (marked map (i .place) (p .subroutine .active) ≡ true)
+      starts-at p i lent none-left = ⊎-elim (λ g. absurd (omega (arith, i .address))) (λ g. let e : i .place + p .run .count ≡ i .place = omega arith in (omega arith, rw e at (g .1))) (i .next)
 
       act-after : (p : Pusher) (i : Inv p) (l : PusherLoan) (r : Role) → Facts s p (on l) r → After (act s p (on l) r)
       unfolding act
@@ -258,7 +259,7 @@ module _ (x : Submission) (map : List ℕ) where
       act-after p i l counts f = absurd (false≢true (sym (i .unawaited) ∙ f .2))
       act-after p i l submits f = rw (advances p) (parameter-after p i (f .3) (wordAt p (x .words)))
       act-after p i l commands f =
-          let at = starts-at p i l f in
+          let at = starts-at p i (f .1 .lent) (f .3) in
           let here : p .get / 4 ≡ i .place = omega (arith, i .address) in
           let d = readOf (s .setting) (wordAt p (x .words)) 0 in
           rw (advances p)

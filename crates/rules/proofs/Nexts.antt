@@ -2,7 +2,7 @@
 use Prim.Native.Nat.{ℕ, _+_, _/_, _≤_}
 use mathlib.Core.Path.{_≡_, refl}
 use mathlib.Core.Bool.{Bool}
-use mathlib.Core.List.{[], _∷_}
+use mathlib.Core.List.{List, [], _∷_}
 use native.Mathlib.Omega.{arith}
 use Rattle.word.specs.Reading.{number, values}
 use Rattle.word.specs.declared.reading.Reading.{Reading}
@@ -10,26 +10,23 @@ use Rattle.word.specs.declared.reading.Reading.the-variants.{Increasing, NonInc
 use Rattle.rules.specs.Map.{main, inside}
 use Rattle.rules.specs.Parameters.{placeAfter}
 use Rattle.rules.specs.Next.{_in-state_, nexts, held}
-use Rattle.rules.specs.Reasons.{NextsPlain}
+use Rattle.rules.specs.Reasons.{NextsPlain, Gives}
+use Rattle.rules.specs.declared.pair.Pair.{Pair}
 
 module _ (p : ℕ) (s : Bool) (d : Reading) where
-  other : number d ≤ 3 → NextsPlain d p s (held (placeAfter d p in-state s ∷ []))
-  unfolding held
+  other : number d ≤ 3 → NextsPlain d p s (placeAfter d p in-state s ∷ [])
   other n =
       record {
-        few = omega arith;
-        other = λ l. (refl, refl);
+        other = λ l. refl;
         return = λ l m. absurd (omega arith);
         reserved = λ l. absurd (omega arith);
         jump = λ t l m v. absurd (omega arith);
         call = λ t e v. absurd (omega arith);
       }
 
-  nowhere : 4 ≤ number d → (6 ≤ number d → 9 ≤ number d) → NextsPlain d p s (held [])
-  unfolding held
+  nowhere : 4 ≤ number d → (6 ≤ number d → 9 ≤ number d) → NextsPlain d p s []
   nowhere n far =
       record {
-        few = omega arith;
         other = λ l. absurd (omega arith);
         return = λ l m. refl;
         reserved = λ l. refl;
@@ -37,31 +34,27 @@ module _ (p : ℕ) (s : Bool) (d : Reading) where
         call = λ t e v. absurd (omega (arith, far (omega arith)));
       }
 
-  jumps : (t : ℕ) → 6 ≤ number d → number d ≤ 7 → values d ≡ t ∷ [] → NextsPlain d p s (held ((t / 4) in-state s ∷ []))
-  unfolding held
+  jumps : (t : ℕ) → 6 ≤ number d → number d ≤ 7 → values d ≡ t ∷ [] → NextsPlain d p s ((t / 4) in-state s ∷ [])
   jumps t low high is =
       record {
-        few = omega arith;
         other = λ l. absurd (omega arith);
         return = λ l m. absurd (omega arith);
         reserved = λ l. absurd (omega arith);
-        jump = λ u l m v. let same : t ≡ u = cc in rw same (refl, refl);
+        jump = λ u l m v. let same : t ≡ u = cc in rw same;
         call = λ u e v. absurd (omega arith);
       }
 
-  calls : (t : ℕ) → number d ≡ 8 → values d ≡ t ∷ [] → NextsPlain d p s (held ((t / 4) in-state inside ∷ (p + 1) in-state main ∷ []))
-  unfolding held
+  calls : (t : ℕ) → number d ≡ 8 → values d ≡ t ∷ [] → NextsPlain d p s ((t / 4) in-state inside ∷ (p + 1) in-state main ∷ [])
   calls t n is =
       record {
-        few = omega arith;
         other = λ l. absurd (omega arith);
         return = λ l m. absurd (omega arith);
         reserved = λ l. absurd (omega arith);
         jump = λ u l m v. absurd (omega arith);
-        call = λ u e v. let same : t ≡ u = cc in rw same (refl, refl, refl);
+        call = λ u e v. let same : t ≡ u = cc in rw same;
       }
 
-pub nexts-plain : (d : Reading) (p : ℕ) (s : Bool) → NextsPlain d p s (held (nexts d p s))
+pub nexts-plain : (d : Reading) (p : ℕ) (s : Bool) → NextsPlain d p s (nexts d p s)
 unfolding number values nexts
 nexts-plain (Increasing c b m) p s = other p s (Increasing c b m) (omega arith)
 nexts-plain (NonIncreasing c b m) p s = other p s (NonIncreasing c b m) (omega arith)
@@ -73,3 +66,21 @@ nexts-plain (Jump t) p s = jumps p s (Jump t) t (omega arith) (omega arith) refl
 nexts-plain (Call t) p s = calls p s (Call t) t refl refl
 nexts-plain Reserved p s = nowhere p s Reserved (omega arith) (λ l. omega arith)
 nexts-plain (Refused r) p s = nowhere p s (Refused r) (omega arith) (λ l. omega arith)
+
+-- the answer gives them, and they are at most two
+pub gives : (qs : List Pair) → Gives qs (held qs)
+unfolding held
+gives qs = record { count = refl; first = refl; second = refl }
+
+pub at-most-two : (d : Reading) (p : ℕ) (s : Bool) → held (nexts d p s) .count ≤ 2
+unfolding nexts held
+at-most-two (Increasing c b m) p s = omega arith
+at-most-two (NonIncreasing c b m) p s = omega arith
+at-most-two (Sli k) p s = omega arith
+at-most-two Return p s = omega arith
+at-most-two (Long b m c) p s = omega arith
+at-most-two (OldJump t) p s = omega arith
+at-most-two (Jump t) p s = omega arith
+at-most-two (Call t) p s = omega arith
+at-most-two Reserved p s = omega arith
+at-most-two (Refused r) p s = omega arith

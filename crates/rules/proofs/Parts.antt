@@ -1,10 +1,10 @@
--- The bits of the map's bytes, what stands past the end of map and list, and a part of the map with the places of the whole that it
+-- The bits of the map's bytes and of the list's, what stands past the end of both, and a part of the map with the places of the whole that it
 -- spans. Assumes nothing.
 use Prim.Native.Nat.{ℕ, zero, suc, _+_, _*_, _/_, _%_, _^_, _≤_, _<_}
 use mathlib.Core.Path.{_≡_, refl, sym, ap, _∙_}
 use mathlib.Core.Bool.{Bool, true, false, not}
 use mathlib.Core.List.{List}
-use mathlib.Core.Logic.{⊎-elim}
+use mathlib.Core.Logic.{⊎-elim, _↔_}
 use mathlib.Core.Option.{Option, none, some}
 use native.Mathlib.Nat.{eq-or-lt-of-le, zero-mul, one-mul, zero-div, div-one}
 use native.Mathlib.Omega.{arith}
@@ -16,8 +16,10 @@ use borrow.Author.Tests.{eq-eqb, ne-eqb}
 use Rattle.word.specs.First.{choose}
 use Rattle.word.specs.Lowest.{keep, lowest, found?}
 use Rattle.word.proofs.Lowest.{none-found}
+use Rattle.word.proofs.Tests.{equal-plain}
 use Rattle.rules.specs.Permit.{permits}
 use Rattle.rules.specs.Map.{marked, starts, anyStart, among}
+use Rattle.rules.specs.Promises.{Permitted}
 
 -- a place is marked if its byte has the state's bit
 one-digit : (d : ℕ) → d < 2 → (k : ℕ) → not (eqb (d * suc k) 0) ≡ eqb d 1
@@ -29,6 +31,11 @@ pub mark-bit : (map : List ℕ) (p : ℕ) (s : Bool) {bit : ℕ} → bit ≡ cho
 unfolding marked choose
 mark-bit map p false e = rw (e, and-high (getD map p 0) 1 0, div-one (getD map p 0)) (one-digit (getD map p 0 % 2) (omega arith) 0)
 mark-bit map p true e = rw (e, and-high (getD map p 0) 1 1) (one-digit (getD map p 0 / 2 % 2) (omega arith) 1)
+
+-- a method is permitted exactly if its bit is set
+pub permits-plain : (list : List ℕ) (b m : ℕ) → permits list b m ≡ true ↔ Permitted list b m
+unfolding permits
+permits-plain list b m = equal-plain _ 1
 
 -- past the end of the list no method is permitted, and past that of the map no place is marked, nor a start
 pub past-denied : (list : List ℕ) (b m : ℕ) → length list ≤ 256 * b + m / 8 → false ≡ permits list b m

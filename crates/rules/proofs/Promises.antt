@@ -1,5 +1,5 @@
 -- The promises, each proved under its name. (Those that take more than a few lines stand in files of their own: Reasons, SoundMoves,
--- Sound, Examples.) Assumes nothing.
+-- Sound, ExactIsOne, Examples.) Assumes nothing.
 use Prim.Native.Nat.{ℕ, _*_, _/_, _%_, _≤_}
 use mathlib.Core.Path.{_≡_, refl, sym, _∙_}
 use mathlib.Core.Bool.{Bool, true}
@@ -14,18 +14,19 @@ use Rattle.word.proofs.First.{by-test, one-outcome}
 use Rattle.word.proofs.Settings.{told-first, told-plain}
 use Rattle.channel.proofs.Refusals.{refused-is, accepted-is}
 use Rattle.rules.specs.Reason.{Submission, submission}
-use Rattle.rules.specs.Judging.{judgeCases, firstOf, placeVerdict, startVerdict, pairVerdict, verdictOf, refusing, settingOf, judged, judgeUpTo}
+use Rattle.rules.specs.Judging.{judgeCases, placeVerdict, startVerdict, pairVerdict, verdictOf, refusing, settingOf, judged, judgeUpTo}
 use Rattle.rules.specs.Answers.{number, verdictRefusal}
 use Rattle.rules.specs.Promises.{judgePlain, Refused, One, Counted, Complete, NoneBad}
+use Rattle.rules.specs.Reasons.{Submitted}
 use Rattle.rules.specs.declared.judging.FirstRefused.{FirstRefused}
 use Rattle.rules.specs.declared.judging.FirstRefused.the-variants.{Nothing, At}
 use Rattle.rules.specs.declared.judging.Verdict.{Verdict}
-use Rattle.rules.specs.declared.judging.Verdict.the-variants as verdict
 use Rattle.rules.specs.declared.judging.Judgement.{Judgement}
 use Rattle.word.proofs.Bytes.{words-length}
+use Rattle.rules.proofs.Answers.{accepts}
 use Rattle.rules.proofs.Table.{judge-agree, none-told, Fits, unrefused, fits, passed}
 use Rattle.rules.proofs.Counted.{count-pairs}
-use Rattle.rules.proofs.Clean.{clean}
+use Rattle.rules.proofs.Clean.{one-of-three, clean}
 use Rattle.rules.proofs.Complete.{complete-verdict, reached-none-bad}
 
 -- what an answer tells of the table
@@ -47,13 +48,16 @@ one =
       judge = λ level sli bytes map list a b. one-outcome;
     }
 
--- a judgement that is made refuses nothing
-first-tells : (v w : Verdict) → verdictRefusal v ≡ none → verdictRefusal w ≡ none → verdictRefusal (firstOf v w) ≡ none
-unfolding firstOf verdictRefusal
-first-tells verdict.Accepted w a b = b
-first-tells (verdict.Rejected r p) w a b = a
-first-tells (verdict.Refused n) w a b = a
+pub submitted : Submitted
+submitted =
+    record {
+      setting = λ level sli. (refl, refl, refl);
+      lent = λ s bytes list. (refl, refl, refl);
+      how-many = λ s bytes list. words-length bytes;
+      command = λ s bytes list p w r lent reads. sym (rw lent at reads);
+    }
 
+-- a judgement that is made refuses nothing
 place-tells : (o : Option ℕ) → verdictRefusal (placeVerdict o) ≡ none
 unfolding placeVerdict verdictRefusal
 place-tells none = refl
@@ -70,8 +74,7 @@ module _ (x : Submission) (map : List ℕ) where
   start-tells = by-test (λ (v : Verdict). verdictRefusal v ≡ none) (λ e. refl) (λ e. refl)
 
   verdict-tells : verdictRefusal (verdictOf x map) ≡ none
-  unfolding verdictOf
-  verdict-tells = first-tells _ _ (place-tells _) (first-tells _ _ start-tells (pair-tells _))
+  verdict-tells = one-of-three x map (λ v. verdictRefusal v ≡ none) (place-tells _) start-tells (pair-tells _)
 
 module _ (most level : ℕ) (sli : Bool) (bytes map list : List ℕ) (r : Judgement) (j : r ≡ judgeUpTo most level sli bytes map list) where
   judged-tells : tells (judged level sli bytes map list) ≡ none
@@ -115,7 +118,7 @@ complete level sli bytes map list r h j s fair exact =
     let count = words-length bytes in
     let same = exact .bytes in
     let told = sized _ level sli bytes map list r j (s .level-fits) (s .sli-fits) (s .words) (s .whole) (omega arith) (s .permit) in
-    (rw (judged-is _ level sli bytes map list r j told) (complete-verdict x map exact fair), counted level sli bytes map list r h j told)
+    (accepts (r .verdict) .1 (rw (judged-is _ level sli bytes map list r j told) (complete-verdict x map exact fair)), counted level sli bytes map list r h j told)
 
 pub none-bad : NoneBad
 none-bad level sli bytes map list r j a p b =

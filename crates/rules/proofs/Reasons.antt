@@ -3,19 +3,20 @@ use Prim.Native.Nat.{ℕ, _+_, _*_, _/_, _%_, _≤_, _<_}
 use mathlib.Core.Path.{_≡_, refl, sym, ap, _∙_, subst}
 use mathlib.Core.Bool.{Bool, true, false, not, _&&_, false≢true}
 use mathlib.Core.List.{List, [], _∷_, _++_}
-use mathlib.Core.Logic.{_⊎_, inl, inr, ⊎-elim, _↔_}
+use mathlib.Core.Logic.{_⊎_, inl, inr, _↔_, Iff·rfl}
 use mathlib.Core.Option.{Option, none, some}
 use native.Mathlib.Omega.{arith}
 use lib.Dec.{eqb, ltb}
 use lib.ListN.{length, getD, List·getD-eq-default}
-use borrow.Author.Tests.{eqb-true, eqb-false, eq-eqb, ne-eqb, ltb-true, ltb-false, lt-ltb, le-ltb, not-true}
+use borrow.Author.Tests.{eqb-true, eq-eqb, ne-eqb, ltb-true, ltb-false, lt-ltb, le-ltb, not-true}
 use Rattle.word.specs.First.{choose, Case, first, _when_, PlainCase, _if_, FirstIs}
 use Rattle.word.specs.Lowest.{lowest, found?}
 use Rattle.word.specs.Reading.{number, parameterCount}
 use Rattle.word.specs.Special.{presentOf}
+use Rattle.word.specs.Contracts.{Presents}
 use Rattle.word.specs.declared.reading.Reading.{Reading}
 use Rattle.word.proofs.First.{Agree, first-is, choose-true}
-use Rattle.word.proofs.Lowest.{lowest-some, found-none}
+use Rattle.word.proofs.Lowest.{lowest-some}
 use Rattle.word.proofs.Tests.{not-plain, or-plain, and-plain, less-plain, equal-plain, most-plain}
 use Rattle.rules.specs.Permit.{permits}
 use Rattle.rules.specs.Map.{main, marked, unmarked, overThree, starts, among}
@@ -23,20 +24,22 @@ use Rattle.rules.specs.Parameters.{placeAfter, methodsOf, methodFor, any
 use Rattle.rules.specs.Next.{_in-state_, nexts}
 use Rattle.rules.specs.Reason.{MAP_BYTE, NO_START, MARKED_PARAMETER, reserved?, call?, return?, ownCases, arrivalCases, nextCases, byMap, noMap, commandCases, Submission, submission, size, commandAt, firstReason, reasonAt, findingOf}
 use Rattle.rules.specs.Judging.{firstOf, placeVerdict, startVerdict, atMark, placeOf, stateOf, refusedPair, refusedAt, numberedPair, firstRefused, pairVerdict, verdictOf, settingOf}
-use Rattle.rules.specs.Answers as answers
-use Rattle.rules.specs.Answers.{findingNumber, refusedNumber, refusedPairIn}
-use Rattle.rules.specs.Reasons.{Marks, ownPlain, AmongPlain, arrivalPlain, nextPlain, commandPlain, pairPlain, WideByte, NoneWide, NoStart, Earlier, FirstPair, Against, Reasons, FirstPairs, AtOnePair}
+use Rattle.rules.specs.Answers.{findingNumber}
+use Rattle.rules.specs.Promises.{Permitted}
+use Rattle.rules.specs.Reasons.{Marks, GoesTo, ownPlain, AmongPlain, arrivalPlain, nextPlain, commandPlain, pairPlain, WideByte, NoneWide, NoStart, Earlier, FirstPair, Against, Reasons, FirstPairs, AtOnePair}
 use Rattle.rules.specs.declared.pair.Pair.{Pair}
-use Rattle.rules.specs.declared.parameters.Methods.{Methods}
 use Rattle.rules.specs.declared.reason.Reason.{Reason}
 use Rattle.rules.specs.declared.reason.Finding.{Finding}
 use Rattle.rules.specs.declared.judging.FirstRefused.{FirstRefused}
 use Rattle.rules.specs.declared.judging.FirstRefused.the-variants.{Nothing, At}
 use Rattle.rules.specs.declared.judging.Verdict.{Verdict}
 use Rattle.rules.specs.declared.judging.Verdict.the-variants.{Accepted, Rejected}
-use Rattle.rules.specs.declared.judging.Verdict.the-variants as verdict
+use Rattle.rules.proofs.Answers.{told-rejected, told-refused, finding-tells, none-tells}
+use Rattle.rules.proofs.Scans.{found-plain}
+use Rattle.rules.proofs.Parts.{permits-plain}
+use Rattle.rules.proofs.Methods.{goes-to, goes-only}
 use Rattle.rules.proofs.Cases.{none-own, arrived, quiet}
-use Rattle.rules.proofs.Nexts.{nexts-plain}
+use Rattle.rules.proofs.Nexts.{nexts-plain, gives}
 use Rattle.rules.proofs.Clean.{numbered, none-wide, mark-none}
 use Rattle.rules.proofs.Promises.{judged-fits, judged-is}
 
@@ -67,29 +70,18 @@ return-plain d = equal-plain (number d) 4
 main-plain : (s : Bool) → not s ≡ true ↔ (s ≡ main)
 main-plain s = (not-true s, λ e. ap not e)
 
-itself : {A : Type 0} → A ↔ A
-itself = (λ a. a, λ a. a)
-
--- a test found to hold somewhere
-found-plain : (f : ℕ → Bool) (n : ℕ) {P : ℕ → Type 0} → ((k : ℕ) → f k ≡ true ↔ P k) → found? (lowest f n) ≡ true ↔ ((k : ℕ) × (k < n) × P k)
-unfolding found?
-found-plain f n {P} h = (λ e. go (lowest f n) refl e, λ x. back (found? (lowest f n)) refl x)
-  where
-    go : (o : Option ℕ) → lowest f n ≡ o → found? o ≡ true → (k : ℕ) × (k < n) × P k
-    go none q e = absurd (false≢true e)
-    go (some k) q e = let y = lowest-some f n k .0 q in (k, y .0, h k .0 (y .1))
-
-    back : (b : Bool) → found? (lowest f n) ≡ b → ((k : ℕ) × (k < n) × P k) → b ≡ true
-    back true e x = refl
-    back false e x = sym (found-none f n e (x .0) (x .1)) ∙ h (x .0) .1 (x .2)
-
--- a method that fails a test
+-- a parameter whose method fails a test
 fails-plain :
-    (test : ℕ → Bool) (ms : Methods) (n : ℕ)
-    → anyFails test ms n ≡ true
-    ↔ ((k : ℕ) × (k < n) × (test (methodFor ms k) ≡ false))
+    (d : Reading) (test : ℕ → ℕ → Bool) {Fails : ℕ → ℕ → Type 0}
+    → ((b n : ℕ) → not (test b n) ≡ true ↔ Fails b n)
+    → anyFails (test (methodsOf d .subchannel)) (methodsOf d) (parameterCount d) ≡ true
+    ↔ ((k : ℕ) × (b : ℕ) × (n : ℕ) × GoesTo d k b n × Fails b n)
 unfolding anyFails
-fails-plain test ms n = found-plain _ n (λ k. (not-true _, λ e. ap not e))
+fails-plain d test h =
+    let found = found-plain (λ k. not (test (methodsOf d .subchannel) (methodFor (methodsOf d) k))) (parameterCount d) (λ k. h (methodsOf d .subchannel) (methodFor (methodsOf d) k)) in (
+      λ e. let k = found .0 e in (k .0, methodsOf d .subchannel, methodFor (methodsOf d) (k .0), goes-to d (k .0) (k .1), k .2),
+      λ k. let at = goes-only d (k .0) (k .1) (k .2) (k .3) in found .1 (k .0, at .0, rw (at .1, at .2) at (k .4)),
+    )
 
 among-plain : (map : List ℕ) (p c : ℕ) → among map (p + 1) c ≡ true ↔ AmongPlain map p c
 unfolding among starts
@@ -99,12 +91,13 @@ among-plain map p c = found-plain _ c (λ k. not-plain _ (equal-plain (getD map 
 own-agree : (x : Submission) (d : Reading) (p : ℕ) (s : Bool) → Agree (ownCases x d p s) (ownPlain x d p s)
 unfolding lacking denied
 own-agree x d p s =
-    let lacks = fails-plain (presentOf (x .setting .level .number)) (methodsOf d) (parameterCount d) in (
+    let absent : (b n : ℕ) → not (presentOf (x .setting .level .number) n) ≡ true ↔ Presents (x .setting .level) n false = λ b n. (λ e. sym (not-true _ e), λ e. ap not (sym e)) in
+    let unset : (b n : ℕ) → not (permits (x .permit) b n) ≡ true ↔ (Permitted (x .permit) b n → ⊥) = λ b n. not-plain _ (permits-plain (x .permit) b n) in (
       refl,
       reserved-plain d,
       (
         refl,
-        and-plain _ s (call-plain d) itself,
+        and-plain _ s (call-plain d) Iff·rfl,
         (
           refl,
           and-plain _ _ (return-plain d) (main-plain s),
@@ -113,8 +106,8 @@ own-agree x d p s =
             less-plain (size x) (placeAfter d p),
             (
               refl,
-              (λ e. let k = lacks .0 e in (k .0, k .1, sym (k .2)), λ k. lacks .1 (k .0, k .1, sym (k .2))),
-              (refl, fails-plain (permits (x .permit) (methodsOf d .subchannel)) (methodsOf d) (parameterCount d), tt),
+              fails-plain d (λ b. presentOf (x .setting .level .number)) absent,
+              (refl, fails-plain d (permits (x .permit)) unset, tt),
             ),
           ),
         ),
@@ -125,7 +118,7 @@ own-agree x d p s =
 arrival-agree : (n : ℕ) (q : Pair) (lacks : Bool) {Lacks : Type 0} → lacks ≡ true ↔ Lacks → Agree (arrivalCases n q lacks) (arrivalPlain n q Lacks)
 arrival-agree n q lacks h =
     let end = equal-plain (q .place) n in
-    (refl, less-plain n (q .place), (refl, and-plain _ (q .inside) end itself, (refl, and-plain _ lacks (not-plain _ end) h, tt)))
+    (refl, less-plain n (q .place), (refl, and-plain _ (q .inside) end Iff·rfl, (refl, and-plain _ lacks (not-plain _ end) h, tt)))
 
 -- two lists after each other
 agree-append : (cs ds : List Case) (ps qs : List PlainCase) → Agree cs ps → Agree ds qs → Agree (cs ++ ds) (ps ++ qs)
@@ -134,27 +127,11 @@ agree-append [] ds (p ∷ ps) qs a b = absurd a
 agree-append (c ∷ cs) ds [] qs a b = absurd a
 agree-append (c ∷ cs) ds (p ∷ ps) qs a b = (a .0, a .1, agree-append cs ds ps qs (a .2) b)
 
--- one of two numbers, where it is the second unless it is the first
-either : (b a c : ℕ) → ((b ≡ a → ⊥) → b ≡ c) → (b ≡ a) ⊎ (b ≡ c)
-either b a c h = go (eqb b a) refl
-  where
-    go : (t : Bool) → eqb b a ≡ t → (b ≡ a) ⊎ (b ≡ c)
-    go true e = inl (eqb-true _ _ e)
-    go false e = inr (h (eqb-false _ _ e))
-
-module _ (x : Submission) (map : List ℕ) (narrow : NoneWide map) where
+module _ (x : Submission) (map : List ℕ) where
   pub marked-plain : (q : ℕ) (t : Bool) → marked map q t ≡ true ↔ Marks map q t
   unfolding marked
-  marked-plain q false =
-      let l = narrow q in (
-        λ e. let h = eqb-true (getD map q 0 % 2) 1 e in either (getD map q 0) 1 3 (λ n. omega arith),
-        λ o. eq-eqb (getD map q 0 % 2) 1 (⊎-elim (λ e. omega arith) (λ e. omega arith) o),
-      )
-  marked-plain q true =
-      let l = narrow q in (
-        λ e. let h = eqb-true (getD map q 0 / 2 % 2) 1 e in either (getD map q 0) 2 3 (λ n. omega arith),
-        λ o. eq-eqb (getD map q 0 / 2 % 2) 1 (⊎-elim (λ e. omega arith) (λ e. omega arith) o),
-      )
+  marked-plain q false = equal-plain (getD map q 0 % 2) 1
+  marked-plain q true = equal-plain (getD map q 0 / 2 % 2) 1
 
   -- so those of one pair are
   next-agree : (qs : List Pair) → Agree (nextCases (unmarked map) (size x) qs) (nextPlain x map qs)
@@ -167,7 +144,7 @@ module _ (x : Submission) (map : List ℕ) (narrow : NoneWide map) where
 
   pair-agree : (d : Reading) (p : ℕ) (s : Bool) → Agree (commandCases (byMap map) x d p s) (commandPlain x map d p s)
   pair-agree d p s =
-      agree-append (ownCases x d p s) (MARKED_PARAMETER when among map (p + 1) (parameterCount d) ∷ nextCases (unmarked map) (size x) (nexts d p s)) (ownPlain x d p s) (MARKED_PARAMETER if AmongPlain map p (parameterCount d) ∷ nextPlain x map (nexts d p s))
+      agree-append (ownCases x d p s) (MARKED_PARAMETER when among map (p + 1) (parameterCount d) ∷ nextCases (unmarked map) (size x) (nexts d p s)) (ownPlain x d p s) (9 if AmongPlain map p (parameterCount d) ∷ nextPlain x map (nexts d p s))
       (own-agree x d p s)
       (refl, among-plain map p (parameterCount d), next-agree (nexts d p s))
 
@@ -286,10 +263,10 @@ module _ (x : Submission) (map : List ℕ) (same : length map ≡ size x) where
           let z = List·getD-eq-default map 0 {n = q} (omega arith) in
           omega arith
 
-  start-plain : NoneWide map → not (eqb (length map) 0) && not (marked map 0 main) ≡ true ↔ NoStart x map
-  start-plain narrow =
+  start-plain : not (eqb (length map) 0) && not (marked map 0 main) ≡ true ↔ NoStart x map
+  start-plain =
       let some-word = not-plain (eqb (length map) 0) (equal-plain (length map) 0) in
-      let unmarked = not-plain (marked map 0 main) (marked-plain x map narrow 0 main) in
+      let unmarked = not-plain (marked map 0 main) (marked-plain x map 0 main) in
       let both = and-plain (not (eqb (length map) 0)) (not (marked map 0 main)) some-word unmarked in
       (λ e. let h = both .0 e in (let n = h .0 in omega arith, h .1), λ h. both .1 (λ z. omega (arith, h .0), h .1))
 
@@ -299,42 +276,38 @@ module _ (x : Submission) (map : List ℕ) (same : length map ≡ size x) where
   abbrev startless : Bool
   startless = not (eqb (length map) 0) && not (marked map 0 main)
 
-  started : NoneWide map → (NoStart x map → ⊥) → startless ≡ false
-  started narrow h = go startless refl
+  started : (NoStart x map → ⊥) → startless ≡ false
+  started h = go startless refl
     where
       go : (b : Bool) → startless ≡ b → startless ≡ false
-      go true e = absurd (h (start-plain narrow .0 e))
+      go true e = absurd (h (start-plain .0 e))
       go false e = e
 
+  -- "first of all": a byte over 3 is the verdict; where there is none, it is the first of the other two
+  wide-first : (w : ℕ) → lowest (overThree map) (size x) ≡ some w → verdictOf x map ≡ Rejected (record { number = MAP_BYTE }) w
+  unfolding verdictOf firstOf placeVerdict
+  wide-first w q = rw q
+
+  then-start : lowest (overThree map) (size x) ≡ none → verdictOf x map ≡ firstOf (startVerdict map) pairs
+  unfolding verdictOf firstOf placeVerdict
+  then-start q = rw q
+
   pub verdict-plain : (n p : ℕ) → verdictOf x map ≡ Rejected (record { number = n }) p ↔ Against x map n p
-  unfolding verdictOf firstOf placeVerdict startVerdict choose
+  unfolding firstOf startVerdict choose
   verdict-plain n p = (by-bytes (lowest (overThree map) (size x)) refl, back)
     where
       by-start : (b : Bool) → startless ≡ b → NoneWide map → firstOf (choose b (Rejected (record { number = NO_START }) 0) Accepted) pairs ≡ Rejected (record { number = n }) p → Against x map n p
-      by-start true t narrow e = let z = rejected-same NO_START n 0 p e in inr (narrow, inl (sym (z .0), sym (z .1), start-plain narrow .0 t))
-      by-start false t narrow e = inr (narrow, inr (λ h. false≢true (sym t ∙ start-plain narrow .1 h), pair-verdict x map narrow n p .0 e))
+      by-start true t narrow e = let z = rejected-same NO_START n 0 p e in inr (narrow, inl (sym (z .0), sym (z .1), start-plain .0 t))
+      by-start false t narrow e = inr (narrow, inr (λ h. false≢true (sym t ∙ start-plain .1 h), pair-verdict x map n p .0 e))
 
-      by-bytes : (o : Option ℕ) → lowest (overThree map) (size x) ≡ o → firstOf (placeVerdict o) (firstOf (startVerdict map) pairs) ≡ Rejected (record { number = n }) p → Against x map n p
-      by-bytes none q e = by-start startless refl (all-narrow (none-wide x map .0 q)) e
-      by-bytes (some w) q e = let z = rejected-same MAP_BYTE n w p e in inl (sym (z .0), subst (λ (y : ℕ). WideByte x map y) (z .1) (wide-plain w .0 q))
+      by-bytes : (o : Option ℕ) → lowest (overThree map) (size x) ≡ o → verdictOf x map ≡ Rejected (record { number = n }) p → Against x map n p
+      by-bytes none q e = by-start startless refl (all-narrow (none-wide x map .0 q)) (sym (then-start q) ∙ e)
+      by-bytes (some w) q e = let z = rejected-same MAP_BYTE n w p (sym (wide-first w q) ∙ e) in inl (sym (z .0), subst (λ (y : ℕ). WideByte x map y) (z .1) (wide-plain w .0 q))
 
-      back : Against x map n p → firstOf (placeVerdict (lowest (overThree map) (size x))) (firstOf (startVerdict map) pairs) ≡ Rejected (record { number = n }) p
-      back (inl w) = rw (wide-plain p .1 (w .1), w .0)
-      back (inr (narrow, inl h)) = rw (none-wide x map .1 (λ q l. narrow q), start-plain narrow .1 (h .2), h .0, h .1)
-      back (inr (narrow, inr h)) = rw (none-wide x map .1 (λ q l. narrow q), started narrow (h .0)) (pair-verdict x map narrow n p .1 (h .1))
-
--- a verdict tells its reason and place
-told-rejected : (v : Verdict) (n p : ℕ) → ((answers.number v ≡ some n) × (answers.values v ≡ p ∷ [])) ↔ (v ≡ Rejected (record { number = n }) p)
-unfolding answers.number answers.values
-told-rejected Accepted n p = (λ h. let e = h .0 in let z : _≡_ {A = ℕ} 0 1 = cc in absurd (omega arith), λ h. let z : _≡_ {A = ℕ} 0 1 = cc in absurd (omega arith))
-told-rejected (Rejected r q) n p = (
-  λ h.
-      let a : r .number ≡ n = let e = h .0 in cc in
-      let b : q ≡ p = let e = h .1 in cc in
-      rw (← a, ← b),
-  λ h. (ap answers.number h, ap answers.values h),
-)
-told-rejected (verdict.Refused m) n p = (λ h. let e = h .0 in let z : _≡_ {A = ℕ} 0 1 = cc in absurd (omega arith), λ h. let z : _≡_ {A = ℕ} 0 1 = cc in absurd (omega arith))
+      back : Against x map n p → verdictOf x map ≡ Rejected (record { number = n }) p
+      back (inl w) = wide-first p (wide-plain p .1 (w .1)) ∙ rw (w .0)
+      back (inr (narrow, inl h)) = then-start (none-wide x map .1 (λ q l. narrow q)) ∙ rw (start-plain .1 (h .2), h .0, h .1)
+      back (inr (narrow, inr h)) = then-start (none-wide x map .1 (λ q l. narrow q)) ∙ rw (started (h .0)) (pair-verdict x map n p .1 (h .1))
 
 pub reasons : Reasons
 reasons level sli bytes map list r j e n p =
@@ -344,39 +317,18 @@ reasons level sli bytes map list r j e n p =
     let told = told-rejected (verdictOf x map) n p in
     rw is (λ h. plain .0 (told .0 h), λ h. told .1 (plain .1 h))
 
--- what is found tells its reason
-finding-tells : (o : Option ℕ) → findingNumber (findingOf o) ≡ o
-unfolding findingNumber findingOf
-finding-tells none = refl
-finding-tells (some n) = refl
-
+-- what is found is the first condition that holds
 found-is : (cs : List Case) (ps : List PlainCase) → Agree cs ps → (r : Finding) → r ≡ findingOf (first cs) → (n : ℕ) → findingNumber r ≡ some n ↔ FirstIs ps n
 found-is cs ps a r e n =
     let is = first-is cs ps a n in
     rw (e, finding-tells (first cs)) is
 
--- the first refused pair tells which it is, and its reason
-told-refused : (f : FirstRefused) (n p : ℕ) (s : Bool) → ((refusedNumber f ≡ some n) × (refusedPairIn f ≡ some (p in-state s))) ↔ (f ≡ At (record { number = n }) (p in-state s))
-unfolding refusedNumber refusedPairIn
-told-refused Nothing n p s = (λ h. let e = h .0 in let z : _≡_ {A = ℕ} 0 1 = cc in absurd (omega arith), λ h. let z : _≡_ {A = ℕ} 0 1 = cc in absurd (omega arith))
-told-refused (At r q) n p s = (
-  λ h.
-      let a : r .number ≡ n = let e = h .0 in cc in
-      let b : q ≡ p in-state s = let e = h .1 in cc in
-      rw (← a, ← b),
-  λ h. (ap refusedNumber h, ap refusedPairIn h),
-)
-
 pub first-pairs : FirstPairs
-first-pairs setting bytes map list r e narrow n p s =
+first-pairs setting bytes map list r e n p s =
     let x = submission setting bytes list in
-    let plain = pair-first x map narrow n p s in
+    let plain = pair-first x map n p s in
     let told = told-refused (firstRefused x map) n p s in
     rw e (λ h. plain .0 (told .0 h), λ h. told .1 (plain .1 h))
-
--- nothing is found exactly if no case holds
-none-tells : (o : Option ℕ) → ((r : Finding) → r ≡ findingOf o → findingNumber r ≡ none) ↔ (o ≡ none)
-none-tells o = (λ h. sym (finding-tells o) ∙ h (findingOf o) refl, λ e r is. rw (is, finding-tells o) e)
 
 pub at-one-pair : AtOnePair
 at-one-pair =
@@ -385,8 +337,9 @@ at-one-pair =
           let x = submission setting bytes list in
           found-is (ownCases x d p s) (ownPlain x d p s) (own-agree x d p s) r;
       marked-among = λ map p c r e. rw e (among-plain map p c);
-      arrival = λ n q lacks r. found-is (arrivalCases n q lacks) (arrivalPlain n q (lacks ≡ true)) (arrival-agree n q lacks itself) r;
-      nexts = λ d p s r e. rw e (nexts-plain d p s);
+      arrival = λ n q lacks r. found-is (arrivalCases n q lacks) (arrivalPlain n q (lacks ≡ true)) (arrival-agree n q lacks Iff·rfl) r;
+      next-pairs = nexts-plain;
+      answers-nexts = λ d p s r e. rw e (gives (nexts d p s));
       path-rule = λ setting bytes list p s.
           let x = submission setting bytes list in
           let d = commandAt x p in

@@ -1,16 +1,17 @@
 -- Loops that look for the lowest number below n that passes a test, and the one that counts bits: what holds at each turn, and
 -- what they come to. Assumes nothing.
 use Prim.Native.Nat.{ℕ, _+_, _≤_, _<_}
-use mathlib.Core.Path.{_≡_, refl, sym, ap, subst}
-use mathlib.Core.Bool.{Bool, true, false}
+use mathlib.Core.Path.{_≡_, refl, sym, ap, subst, _∙_}
+use mathlib.Core.Bool.{Bool, true, false, false≢true}
 use mathlib.Core.List.{List}
-use mathlib.Core.Option.{none, some}
+use mathlib.Core.Logic.{_↔_}
+use mathlib.Core.Option.{Option, none, some}
 use native.Mathlib.Numerals.{add-one}
 use native.Mathlib.Omega.{arith}
 use lib.Count.{ones}
 use lib.ListN.{getD}
 use Rattle.word.specs.Lowest.{lowest, found?}
-use Rattle.word.proofs.Lowest.{lowest-more, lowest-at}
+use Rattle.word.proofs.Lowest.{lowest-more, lowest-at, lowest-some, found-none}
 use Rattle.rules.specs.Permit.{setBits}
 
 -- what holds when a loop comes to k: no number below it passes;
@@ -45,6 +46,19 @@ module _ (f : ℕ → Bool) (n : ℕ) where
     pub none-passes : n ≤ k → false ≡ found? (lowest f n)
     unfolding found?
     none-passes l = sym (ap found? (unmet l))
+
+-- a test found to hold somewhere
+pub found-plain : (f : ℕ → Bool) (n : ℕ) {P : ℕ → Type 0} → ((k : ℕ) → f k ≡ true ↔ P k) → found? (lowest f n) ≡ true ↔ ((k : ℕ) × (k < n) × P k)
+unfolding found?
+found-plain f n {P} h = (λ e. go (lowest f n) refl e, λ x. back (found? (lowest f n)) refl x)
+  where
+    go : (o : Option ℕ) → lowest f n ≡ o → found? o ≡ true → (k : ℕ) × (k < n) × P k
+    go none q e = absurd (false≢true e)
+    go (some k) q e = let y = lowest-some f n k .0 q in (k, y .0, h k .0 (y .1))
+
+    back : (b : Bool) → found? (lowest f n) ≡ b → ((k : ℕ) × (k < n) × P k) → b ≡ true
+    back true e x = refl
+    back false e x = sym (found-none f n e (x .0) (x .1)) ∙ h (x .0) .1 (x .2)
 
 -- how many bits are set, with one byte more
 pub set-bits-more : (list : List ℕ) (n count : ℕ) → count ≡ setBits list n → count + ones (getD list n 0) ≡ setBits list (n + 1)

@@ -19,12 +19,13 @@ use Rattle.rules.specs.Permit.{setBits, countOf}
 use Rattle.rules.specs.Map.{marked, overThree, unmarked}
 use Rattle.rules.specs.Next.{_in-state_, nexts}
 use Rattle.rules.specs.Reason.{nextCases, byMap, commandCases, Submission, submission, size, commandAt, firstReason, reasonAt}
-use Rattle.rules.specs.Judging.{firstOf, placeVerdict, startVerdict, atMark, placeOf, stateOf, refusedPair, refusedAt, numberedPair, firstRefused, pairVerdict, verdictOf, judgeCases, refusing, settingOf, judged, judgeUpTo}
+use Rattle.rules.specs.Judging.{placeVerdict, startVerdict, atMark, placeOf, stateOf, refusedPair, refusedAt, numberedPair, firstRefused, pairVerdict, verdictOf, judgeCases, refusing, settingOf, judged, judgeUpTo}
 use Rattle.rules.specs.Promises.{Bytes}
 use Rattle.rules.specs.declared.pair.Pair.{Pair}
 use Rattle.rules.specs.declared.judging.Verdict.{Verdict}
 use Rattle.rules.specs.declared.judging.Verdict.the-variants.{Accepted, Rejected, Refused}
 use Rattle.rules.proofs.Table.{fits}
+use Rattle.rules.proofs.Clean.{one-of-three}
 
 -- whether every number of a list of cases is one from 1 to 255; then so is that of the first that holds
 unfoldable byteNumbers : List Case → Bool
@@ -53,12 +54,6 @@ abbrev pub Small : Verdict → Type 0
 Small Accepted = Unit {0}
 Small (Rejected r p) = (0 < r .number) × (r .number < 2 ^ 8) × (p < 2 ^ 24)
 Small (Refused n) = (0 < n .number) × (n .number < 2 ^ 8)
-
-first-small : (v w : Verdict) → Small v → Small w → Small (firstOf v w)
-unfolding firstOf
-first-small Accepted w a b = b
-first-small (Rejected r p) w a b = a
-first-small (Refused n) w a b = a
 
 module _ (x : Submission) (map : List ℕ) (words : size x ≤ 2 ^ 24) where
   place-small : (o : Option ℕ) → lowest (overThree map) (size x) ≡ o → Small (placeVerdict o)
@@ -93,8 +88,8 @@ module _ (x : Submission) (map : List ℕ) (words : size x ≤ 2 ^ 24) where
   start-small = by-test Small (λ e. (omega arith, omega arith, omega arith)) (λ e. tt)
 
   verdict-small : Small (verdictOf x map)
-  unfolding verdictOf firstRefused
-  verdict-small = first-small _ _ (place-small _ refl) (first-small _ _ start-small (pair-small _ refl))
+  unfolding firstRefused
+  verdict-small = one-of-three x map Small (place-small _ refl) start-small (pair-small _ refl)
 
 -- no byte has more than eight set bits
 count-small : (list : List ℕ) → Bytes list → (n : ℕ) → setBits list n ≤ 8 * n

@@ -1,36 +1,30 @@
 -- `Sound`: an accepted map keeps the channel safe. Assumes nothing.
-use Prim.Native.Nat.{ℕ, _*_, _/_}
-use mathlib.Core.Path.{_≡_, refl, ap, _∙_}
+use Prim.Native.Nat.{ℕ, _*_, _/_, _≤_}
+use mathlib.Core.Path.{_≡_, refl, sym, ap, _∙_}
 use mathlib.Core.Bool.{Bool}
-use mathlib.Core.List.{List}
-use mathlib.Core.Logic.{_⊎_, ⊎-elim}
+use mathlib.Core.List.{List, [], _∷_}
+use mathlib.Core.Logic.{⊎-elim}
 use mathlib.Core.Option.{none}
 use native.Mathlib.Omega.{arith}
-use lib.ListN.{length}
+use lib.ListN.{length, getD}
 use Rattle.word.specs.declared.setting.Setting.{Setting}
 use Rattle.word.specs.Answers.{checkRefusal}
-use Rattle.event.specs.declared.Kind.{Kind}
-use Rattle.event.specs.declared.Method.{Method}
-use Rattle.event.specs.declared.Event.the-variants.{Of}
 use Rattle.pusher.specs.Record.{withPut}
-use Rattle.pusher.specs.Promises.{ReadsParameter}
 use Rattle.pusher.specs.declared.record.Run as pusher-run
 use Rattle.pusher.specs.declared.record.Subroutine.{Subroutine}
 use Rattle.channel.specs.Loan.{Loan}
-use Rattle.channel.specs.Record.{withPusher}
-use Rattle.channel.specs.Answers.{openingRefusal, stepRefusal}
+use Rattle.channel.specs.Answers.{openingRefusal, stepRefusal, answerValues}
 use Rattle.channel.specs.Contracts.{StepsTo}
 use Rattle.channel.specs.Promises as channel
 use Rattle.channel.specs.declared.record.Channel.{Channel}
-use Rattle.channel.specs.declared.putting.Put.{Put}
-use Rattle.channel.specs.declared.stepping.Answer.the-variants as answer
 use Rattle.channel.specs.declared.stepping.Stepped.{Stepped}
+use Rattle.channel.proofs.Answers.{says-taken}
 use Rattle.channel.proofs.ByRole.{none-refused}
 use Rattle.channel.proofs.Promises as proved
 use Rattle.channel.proofs.ReadAs.{read-as}
 use Rattle.word.specs.Lent.{wordsOf}
 use Rattle.rules.specs.Judging.{settingOf}
-use Rattle.rules.specs.Promises.{Bytes, FreshPusher, Started, Lendable, AfterSteps, now, step, StaysSafe, Sound}
+use Rattle.rules.specs.Promises.{Bytes, FreshPusher, Started, AfterSteps, now, step, Sound}
 use Rattle.word.proofs.Bytes.{words-narrow}
 use Rattle.rules.proofs.Table.{Fits, none-told, passed}
 use Rattle.rules.proofs.SoundMoves.{sound-moves}
@@ -72,16 +66,13 @@ module _ (level : ℕ) (sli : Bool) (bytes map list : List ℕ) (words : Bytes b
         (λ n. ⊎-elim (λ e. e .1 (omega arith)) (λ e. omega arith) n, tt),
       )
 
-  abbrev first : Channel
-  first = withPusher (s .opened .channel) (withPut (s .opened .channel .pusher) (4 * length ws))
-
-  put-is : s .put .channel ≡ first
-  put-is = ap (λ (r : Put). r .channel) (proved.accepted .put (s .opened .channel) (4 * length ws) (s .put) (s .puts) put-none (fresh .mode-is))
+  put-is : channel.Halves (s .opened .channel) (withPut (s .opened .channel .pusher) (4 * length ws)) (s .opened .channel .puller) (s .put .channel)
+  put-is = proved.accepted .put (s .opened .channel) (4 * length ws) (s .put) (s .puts) put-none (fresh .mode-is)
 
   first-pusher : FreshPusher level sli ws (s .put .channel .setup) (s .put .channel .pusher)
   first-pusher =
       let rest = fresh .rest in
-      rw put-is
+      rw (put-is .setup, put-is .pusher)
       (record {
         setting = setting-is (s .opened .channel .setup .setting) level sli (fresh .level-is) (fresh .mode-is) (fresh .sli-is);
         limit = λ i l. rw (fresh .limit-is) (s .limit-not-below i l);
@@ -98,37 +89,39 @@ module _ (level : ℕ) (sli : Bool) (bytes map list : List ℕ) (words : Bytes b
   -- every channel that steps come to is well-formed
   steps-later : (c : Channel) → AfterSteps ws (s .put .channel) c → channel.Later (s .opened .channel) c
   steps-later c now = channel.put (4 * length ws) (s .put) channel.same (omega (arith, h .words)) (s .puts) refl
-  steps-later c (step {d = b} l exit r a lent m e) = channel.step l exit r (steps-later b a) (record { words = rw (lent .words) (words-narrow bytes words); table = lent .table-words }) m e
+  steps-later c (step {d = b} l exit r a lent table m e) = channel.step l exit r (steps-later b a) (record { words = rw lent (words-narrow bytes words); table = table }) m e
 
   formed : (c : Channel) → AfterSteps ws (s .put .channel) c → channel.WellFormed c
   formed c l = proved.kept .later (s .opened .channel) c opened-formed (steps-later c l)
 
   -- a step is not refused
-  can : (c : Channel) → AfterSteps ws (s .put .channel) c → (l : Loan) → Lendable ws l → channel.Takable c l
-  can c a l lent = record { well-formed = formed c a; sizes = record { words = rw (lent .words) (h .words); semaphores = lent .semaphores; table = lent .table } }
-
-  step-none : (c : Channel) → AfterSteps ws (s .put .channel) c → (l : Loan) (exit : List ℕ) (r : Stepped) → Lendable ws l → StepsTo c l r exit → stepRefusal (r .answer) ≡ none
-  step-none c a l exit r lent m =
-      ap (λ (y : Stepped). stepRefusal (y .answer)) (m .answer) ∙ none-refused c l (can c a l lent)
-
-  -- a method that a step tells is that of the parameter that it reads
-  told-method :
+  step-none :
       (c : Channel)
       → AfterSteps ws (s .put .channel) c
-      → (l : Loan) (exit : List ℕ) (k : Kind) (m : Method) (r : Stepped)
-      → Lendable ws l
+      → (l : Loan) (exit : List ℕ) (r : Stepped)
+      → l .pusher .words ≡ ws
+      → (channel.BadTable (l .puller .table) → ⊥)
+      → length (l .puller .semaphores) ≤ 1048576
       → StepsTo c l r exit
-      → r .answer ≡ answer.Event (Of k m)
-      → ReadsParameter (c .setup) (c .pusher) (l .pusher) × (m .subchannel ≡ c .pusher .run .subchannel) × (m .method ≡ 4 * c .pusher .run .method)
-  told-method c a l exit k m r lent v says =
-      let taken = can c a l lent in
-      let reads = read-as .tells-method c l exit k m r v taken says in
-      ⊎-elim (λ e. let z : _≡_ {A = ℕ} 0 1 = cc in absurd (omega arith))
-      (λ e.
-      let q = e .2 in
-      let same : m ≡ record { subchannel = c .pusher .run .subchannel; method = 4 * c .pusher .run .method; parameter = e .1 } = cc in
-      (reads .1, ap (λ (y : Method). y .subchannel) same, ap (λ (y : Method). y .method) same))
-      (read-as .parameter c l exit r v taken (reads .0) (reads .1) .1)
+      → stepRefusal (r .answer) ≡ none
+  step-none c a l exit r lent table semaphores m =
+      let can : channel.Takable c l = record { well-formed = formed c a; sizes = record { words = rw lent (h .words); semaphores = semaphores; table = table } } in
+      ap (λ (y : Stepped). stepRefusal (y .answer)) (m .answer) ∙ none-refused c l can
+
+-- lists of values that are one have the same second and third
+same-method : {j k b m n c o p : ℕ} → j ∷ b ∷ m ∷ n ∷ [] ≡ k ∷ c ∷ o ∷ p ∷ [] → (b ≡ c) × (m ≡ o)
+same-method e = (ap (λ (vs : List ℕ). getD vs 1 0) e, ap (λ (vs : List ℕ). getD vs 2 0) e)
+
+-- a method that a step tells is that of the parameter that it reads
+told-method :
+    (c : Channel) (l : Loan) (exit : List ℕ) (k b m n : ℕ) (r : Stepped)
+    → StepsTo c l r exit
+    → answerValues (r .answer) ≡ k ∷ b ∷ m ∷ n ∷ []
+    → channel.ReadsParameter c (l .pusher) × (b ≡ c .pusher .run .subchannel) × (m ≡ 4 * c .pusher .run .method)
+told-method c l exit k b m n r v says =
+    let reads = read-as .tells-method c l exit k b m n r v says in
+    ⊎-elim (λ e. let z : _≡_ {A = ℕ} 4 1 = ap length (sym says ∙ e) in absurd (omega arith)) (λ e. let same = same-method (sym says ∙ e .2) in (reads, same .0, same .1))
+    (read-as .parameter c l exit r v (says-taken (r .answer) _ _ says) reads)
 
 pub sound : Sound
 sound level sli bytes map list r words j a s =
@@ -143,15 +136,15 @@ sound level sli bytes map list r words j a s =
           record {
             no-pusher-error = safe .no-error;
             taken = step-none level sli bytes map list words h s c a;
-            permitted = λ l x m w g v k. safe .permitted l x m w (rw (moved .0) at v) k;
-            told = λ l exit k m r lent v e.
-                let at = told-method level sli bytes map list words h s c a l exit k m r lent v e in
+            permitted = λ l x m w v k. safe .permitted l x m w (rw (moved .0) at (v .move)) k;
+            told = λ l exit k b m n r lent v e.
+                let at = told-method c l exit k b m n r v e in
                 let same : 4 * c .pusher .run .method / 4 ≡ c .pusher .run .method = omega arith in
-                rw (at .1, at .2, same) (safe .parameter (l .pusher) (lent .words) (rw (moved .0) at (at .0)));
+                rw (at .1, at .2, same) (safe .parameter (l .pusher) lent (rw (moved .0) at (at .0 .reads)));
             closed = safe .closed;
           };
-      apart = λ c d k l u v m n f g y z e.
+      apart = λ c d k l u v m n y z e.
           let a = steps-moved (wordsOf bytes) (s .put .channel) c m in
           let b = steps-moved (wordsOf bytes) (s .put .channel) d n in
-          all .1 (c .pusher) (d .pusher) k l u v (a .1) (b .1) (rw (a .0) at y) (rw (b .0) at z) e;
+          all .1 (c .pusher) (d .pusher) k l u v (a .1) (b .1) (rw (a .0) at (y .reads)) (rw (b .0) at (z .reads)) e;
     }

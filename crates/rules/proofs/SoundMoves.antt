@@ -1,9 +1,9 @@
 -- `SoundMoves`: an accepted map keeps the pusher safe. Assumes nothing.
 use Prim.Native.Nat.{ℕ, _+_, _*_, _/_, _≤_, _<_}
-use mathlib.Core.Path.{_≡_, refl, sym, ap, subst, _∙_}
+use mathlib.Core.Path.{_≡_, refl, sym, ap, _∙_}
 use mathlib.Core.Bool.{Bool, false≢true}
 use mathlib.Core.List.{List}
-use mathlib.Core.Logic.{_⊎_, inl, inr, ⊎-elim}
+use mathlib.Core.Logic.{inl, inr, ⊎-elim}
 use native.Mathlib.Nat.{eq-or-lt-of-le}
 use native.Mathlib.Omega.{arith}
 use lib.ListN.{length}
@@ -11,11 +11,9 @@ use borrow.Author.Tests.{eqb-true, not-false}
 use Rattle.pusher.specs.Record.{number, halts}
 use Rattle.pusher.specs.Loan.{PusherLoan, withWords}
 use Rattle.pusher.specs.Many.{Moved, unmoved, move}
-use Rattle.pusher.specs.Moving.{Role, commands, submits, role}
 use Rattle.pusher.specs.Promises.{ReadsCommand, ReadsParameter}
 use Rattle.pusher.specs.declared.record.Setup.{Setup}
 use Rattle.pusher.specs.declared.record.Pusher.{Pusher}
-use Rattle.pusher.proofs.Roles.{Facts, facts}
 use Rattle.pusher.proofs.Sentences.{runs}
 use Rattle.word.specs.Lent.{wordsOf}
 use Rattle.rules.specs.Reason.{Submission, submission, size}
@@ -37,19 +35,13 @@ module _ (x : Submission) (map : List ℕ) (ok : Clean x map) (small : size x �
     always p q i (move {q = o} l r m w h e) =
         rw (e, h, on-these l w) (after x map ok small s setting style limit o (always p o i m) l .pusher)
 
-    -- the facts at a role that the pusher is at
-    at-role : (p : Pusher) (l : PusherLoan) → l .words ≡ x .words → (r : Role) → role s p l ≡ r → Facts s p (withWords l (x .words)) r
-    at-role p l w r e =
-        let here : Facts s p l r = rw e at (facts s p l) in
-        subst (λ (k : PusherLoan). Facts s p k r) (on-these l w) here
-
     safe : (p : Pusher) → Inv x map p → SafePusher s (x .words) (x .permit) p
     unfolding halts
     safe p i =
         record {
           no-error = eqb-true _ _ (not-false _ (i .running));
           permitted = λ l r m w h v. after x map ok small s setting style limit p i l .permitted m (rw (h, on-these l w) at v);
-          parameter = λ l w h. run-permitted x map p i (at-role p l w submits h .3);
+          parameter = λ l w h. run-permitted x map p i (h .left);
           closed = λ e.
               let a = i .address in
               let b = i .end in
@@ -72,9 +64,8 @@ module _ (x : Submission) (map : List ℕ) (ok : Clean x map) (small : size x �
         → p .get / 4 ≡ q .get / 4
         → ⊥
     apart p q k l v w i j c h e =
-        let start = starts-at x map ok small s setting style limit p i k (at-role p k v commands c) in
-        let f = at-role q l w submits h in
-        let n = f .3 in
+        let start = starts-at x map ok small s setting style limit p i (rw v at (c .word .lent)) (c .none-left) in
+        let n = h .left in
         let a = i .address in
         let b = j .address in
         let same : j .place + 0 ≡ i .place = omega arith in

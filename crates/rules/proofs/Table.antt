@@ -3,7 +3,7 @@ use Prim.Native.Nat.{ℕ, _*_, _/_, _%_, _≤_, _<_}
 use mathlib.Core.Path.{_≡_, refl, sym, ap, _∙_}
 use mathlib.Core.Bool.{Bool, true, false, not}
 use mathlib.Core.List.{List, [], _∷_}
-use mathlib.Core.Logic.{inl, inr, ⊎-elim, _↔_}
+use mathlib.Core.Logic.{inl, inr, ⊎-elim, _↔_, Iff·rfl}
 use mathlib.Core.Option.{Option, none, some}
 use native.Mathlib.Omega.{arith}
 use lib.Dec.{eqb, ltb}
@@ -17,10 +17,12 @@ use Rattle.channel.proofs.Refusals.{NoneOf, none-of}
 use Rattle.word.specs.Lent.{wordsOf}
 use Rattle.rules.specs.Reason.{submission}
 use Rattle.rules.specs.Judging.{judgeCases, judged, verdictOf, refusing, settingOf, judgeUpTo}
-use Rattle.rules.specs.Promises.{judgePlain}
+use Rattle.rules.specs.Answers.{Accepts}
+use Rattle.rules.specs.Promises.{judgePlain, Sized}
 use Rattle.rules.specs.declared.judging.Verdict.the-variants.{Accepted}
 use Rattle.rules.specs.declared.judging.Judgement.{Judgement}
 use Rattle.word.proofs.Bytes.{words-length}
+use Rattle.rules.proofs.Answers.{accepts}
 
 -- where no plain condition holds, nothing is refused
 none-first : (ps : List PlainCase) → NoneOf ps → (n : ℕ) → FirstIs ps n → ⊥
@@ -48,7 +50,7 @@ module _ (most level : ℕ) (sli : Bool) (bytes map list : List ℕ) where
         less-plain 5 level,
         (
           refl,
-          and-plain sli (ltb level 3) (λ e. e, λ e. e) (less-plain level 3),
+          and-plain sli (ltb level 3) Iff·rfl (less-plain level 3),
           (
             refl,
             less-plain (4 * most) (length bytes),
@@ -66,7 +68,9 @@ module _ (most level : ℕ) (sli : Bool) (bytes map list : List ℕ) where
     pub level-fits : level ≤ 5
     pub sli-fits : sli ≡ true → 3 ≤ level
     pub words : length (wordsOf bytes) ≤ most
+    pub whole : length bytes % 4 ≡ 0
     pub bytes-map : length map ≡ length (wordsOf bytes)
+    pub permit : length list ≡ 2048
 
   named : NoneOf (judgePlain most level sli bytes map list) → Fits
   named (above, (low, (over, (lengths, end)))) =
@@ -76,7 +80,9 @@ module _ (most level : ℕ) (sli : Bool) (bytes map list : List ℕ) where
         level-fits = omega arith;
         sli-fits = λ s. let below : level < 3 → ⊥ = λ l. low (s, l) in omega arith;
         words = omega arith;
+        whole = same (length bytes % 4) 0 (λ u. lengths (inl u));
         bytes-map = omega arith;
+        permit = same (length list) 2048 (λ u. lengths (inr (inr u)));
       }
 
   -- and what it then is not
@@ -100,10 +106,10 @@ module _ (most level : ℕ) (sli : Bool) (bytes map list : List ℕ) where
   pub passed :
       (r : Judgement)
       → r ≡ judgeUpTo most level sli bytes map list
-      → r .verdict ≡ Accepted
+      → Accepts (r .verdict)
       → Fits × (verdictOf (submission (settingOf level sli) bytes list) map ≡ Accepted)
   unfolding judgeUpTo refusedOr
-  passed r j a = go (first (judgeCases most level sli bytes map list)) refl (sym (ap (λ (y : Judgement). y .verdict) j) ∙ a)
+  passed r j a = go (first (judgeCases most level sli bytes map list)) refl (sym (ap (λ (y : Judgement). y .verdict) j) ∙ accepts (r .verdict) .0 a)
     where
       go :
           (o : Option ℕ)
@@ -112,3 +118,10 @@ module _ (most level : ℕ) (sli : Bool) (bytes map list : List ℕ) where
           → Fits × (verdictOf (submission (settingOf level sli) bytes list) map ≡ Accepted)
       go none e h = (fits e, h)
       go (some n) e h = let z : _≡_ {A = ℕ} 0 1 = cc in absurd (omega arith)
+
+-- what the gatekeeper's table does not refuse is what `Complete` speaks of
+pub sized : (level : ℕ) (sli : Bool) (bytes map list : List ℕ) → first (judgeCases 1048576 level sli bytes map list) ≡ none → Sized level sli bytes list
+sized level sli bytes map list e =
+    let fit = fits 1048576 level sli bytes map list e in
+    let count = words-length bytes in
+    record { level-fits = fit .level-fits; sli-fits = fit .sli-fits; words = omega (arith, fit .words, fit .whole); whole = fit .whole; permit = fit .permit }

@@ -1,5 +1,6 @@
 -- The paper's numbers of the answers, none where there is none, and their values.
 use Prim.Native.Nat.{ℕ}
+use mathlib.Core.Path.{_≡_}
 use mathlib.Core.List.{List, [], _∷_}
 use mathlib.Core.Option.{Option, none, some}
 use Rattle.rules.specs.declared.pair.Pair.{Pair}
@@ -40,3 +41,7 @@ unfoldable pub values : Verdict → List ℕ
 values Accepted = []
 values (Rejected r p) = p ∷ []
 values (Refused n) = []
+
+-- accepted: it is no refusal and has no reason
+abbrev pub Accepts : Verdict → Type 0
+Accepts v = (verdictRefusal v ≡ none) × (number v ≡ none)

@@ -7,48 +7,51 @@ use mathlib.Core.List.{List, [], _∷_}
 use mathlib.Core.Logic.{_⊎_, _↔_}
 use mathlib.Core.Option.{none, some}
 use lib.ListN.{length, getD}
-use Rattle.word.specs.First.{choose, PlainCase, _if_, FirstIs}
-use Rattle.word.specs.Setting.{LEVEL, SLI, SIZE, LENGTH}
+use Rattle.word.specs.First.{PlainCase, _if_, FirstIs}
 use Rattle.word.specs.Answers.{checkRefusal}
 use Rattle.word.specs.declared.setting.Setting.{Setting}
 use Rattle.word.specs.declared.reading.Reading.{Reading}
-use Rattle.event.specs.declared.Kind.{Kind}
 use Rattle.event.specs.declared.Method.{Method}
-use Rattle.event.specs.declared.Event.the-variants.{Of}
 use Rattle.pusher.specs.Record as pusher-record
 use Rattle.pusher.specs.Contracts.{Moves}
 use Rattle.pusher.specs.Loan.{PusherLoan}
 use Rattle.pusher.specs.Many.{Moved, Submits}
-use Rattle.pusher.specs.Promises.{ReadsCommand, ReadsParameter}
+use Rattle.pusher.specs.Promises as pusher
 use Rattle.pusher.specs.declared.record.Setup.{Setup}
 use Rattle.pusher.specs.declared.record.Pusher.{Pusher}
 use Rattle.pusher.specs.declared.moving.Pushed.{Pushed}
-use Rattle.channel.specs.Answers.{openingRefusal, stepRefusal}
+use Rattle.channel.specs.Answers.{openingRefusal, stepRefusal, answerValues}
 use Rattle.channel.specs.Contracts.{Opens, Puts, StepsTo}
 use Rattle.channel.specs.Loan.{Loan}
-use Rattle.channel.specs.Promises.{BadTable, Twice, GoesOn}
+use Rattle.channel.specs.Promises as channel
+use Rattle.channel.specs.Promises.{BadTable, Twice, MakesMove}
 use Rattle.channel.specs.declared.record.Channel.{Channel}
 use Rattle.channel.specs.declared.opening.Opened.{Opened}
 use Rattle.channel.specs.declared.putting.Put.{Put}
-use Rattle.channel.specs.declared.stepping.Answer.the-variants as answer
 use Rattle.channel.specs.declared.stepping.Stepped.{Stepped}
 use Rattle.word.specs.Lent.{Words, wordsOf}
-use Rattle.rules.specs.Permit.{permits}
-use Rattle.rules.specs.Reason.{submission}
+use Rattle.rules.specs.Reason.{Submission, submission}
 use Rattle.rules.specs.Judging.{settingOf}
 use Rattle.rules.specs.Path.{Bad, Exact}
-use Rattle.rules.specs.Answers.{number, verdictRefusal}
+use Rattle.rules.specs.Answers.{number, verdictRefusal, Accepts}
 use Rattle.rules.specs.Contracts.{FindsOwn, MarkedAmong, Arrives, NextPairs, FirstRefuses, Judges}
 use Rattle.rules.specs.declared.pair.Pair.{Pair}
 use Rattle.rules.specs.declared.pair.Nexts.{Nexts}
 use Rattle.rules.specs.declared.reason.Finding.{Finding}
 use Rattle.rules.specs.declared.judging.FirstRefused.{FirstRefused}
-use Rattle.rules.specs.declared.judging.Verdict.the-variants.{Accepted}
 use Rattle.rules.specs.declared.judging.Judgement.{Judgement}
 
 -- What is lent are bytes.
 abbrev pub Bytes : List ℕ → Type 0
 Bytes l = (i : ℕ) → getD l i 0 < 2 ^ 8
+
+-- "Permit list: bit (m mod 8) of byte 256 times subchannel plus m/8, m the method divided by 4." A method is permitted where that
+-- bit is set.
+abbrev pub permitBit : List ℕ → ℕ → ℕ → ℕ
+permitBit list subchannel m = getD list (256 * subchannel + m / 8) 0 / 2 ^ (m % 8) % 2
+
+abbrev pub Permitted : List ℕ → ℕ → ℕ → Type 0
+Permitted list subchannel m = permitBit list subchannel m ≡ 1
 
 -- Promise 1.
 
@@ -56,10 +59,10 @@ Bytes l = (i : ℕ) → getD l i 0 < 2 ^ 8
 -- many words, LENGTH "words lent as bytes not a multiple of 4, map not one byte a word, or permit list not 2,048 bytes"
 abbrev pub judgePlain : ℕ → ℕ → Bool → List ℕ → List ℕ → List ℕ → List PlainCase
 judgePlain most level sli bytes map list =
-    LEVEL if (5 < level)
-    ∷ SLI if ((sli ≡ true) × (level < 3))
-    ∷ SIZE if (4 * most < length bytes)
-    ∷ LENGTH if ((length bytes % 4 ≡ 0 → ⊥) ⊎ ((length map ≡ length bytes / 4 → ⊥) ⊎ (length list ≡ 2048 → ⊥)))
+    1 if (5 < level)
+    ∷ 4 if ((sli ≡ true) × (level < 3))
+    ∷ 8 if (4 * most < length bytes)
+    ∷ 9 if ((length bytes % 4 ≡ 0 → ⊥) ⊎ ((length map ≡ length bytes / 4 → ⊥) ⊎ (length list ≡ 2048 → ⊥)))
     ∷ []
 
 -- A refusal is given exactly when the table says: the answer is refusal n if and only if n's condition holds and none before it
@@ -94,18 +97,14 @@ pub record One : Type 0 where
       → a ≡ b
   pub judge : (level : ℕ) (sli : Bool) (bytes map list : List ℕ) (a b : Judgement) → Judges level sli bytes map list a → Judges level sli bytes map list b → a ≡ b
 
--- how many numbers below n pass a test, and the sum of the values below n
-unfoldable pub howMany : (ℕ → Bool) → ℕ → ℕ
-howMany f zero = 0
-howMany f (suc n) = howMany f n + choose (f n) 1 0
-
+-- the sum of the values below n
 unfoldable pub sum : (ℕ → ℕ) → ℕ → ℕ
 sum f zero = 0
 sum f (suc n) = sum f n + f n
 
 -- how many methods of the eight subchannels a list permits
 abbrev pub permittedPairs : List ℕ → ℕ
-permittedPairs list = sum (λ subchannel. howMany (permits list subchannel) 2048) 8
+permittedPairs list = sum (λ subchannel. sum (permitBit list subchannel) 2048) 8
 
 -- "The answer also gives the count of set permit bits": it is the number of permitted methods.
 abbrev pub Counted : Type 0
@@ -134,9 +133,9 @@ pub record SafePusher (s : Setup) (ws list : List ℕ) (p : Pusher) : Type 0 whe
       → l .words ≡ ws
       → Moves s p l x
       → Submits x m
-      → permits list (m .subchannel) (m .method / 4) ≡ true
+      → Permitted list (m .subchannel) (m .method / 4)
   -- so too by the word: one that is read as a parameter goes to a permitted method
-  pub parameter : (l : PusherLoan) → l .words ≡ ws → ReadsParameter s p l → permits list (p .run .subchannel) (p .run .method) ≡ true
+  pub parameter : (l : PusherLoan) → l .words ≡ ws → pusher.ReadsParameter s p l → Permitted list (p .run .subchannel) (p .run .method)
   -- "has no command or subroutine open when its read address reaches put"
   pub closed : p .get ≡ p .put → Closed p
 
@@ -154,7 +153,7 @@ abbrev pub SoundMoves : Type 0
 SoundMoves =
     (level : ℕ) (sli : Bool) (bytes map list : List ℕ) (r : Judgement)
     → Judges level sli bytes map list r
-    → r .verdict ≡ Accepted
+    → Accepts (r .verdict)
     → (s : Setup) (p : Pusher)
     → FreshPusher level sli (wordsOf bytes) s p
     → ((q : Pusher) → Moved s (wordsOf bytes) p q → SafePusher s (wordsOf bytes) list q)
@@ -164,8 +163,8 @@ SoundMoves =
     → l .words ≡ wordsOf bytes
     → Moved s (wordsOf bytes) p q
     → Moved s (wordsOf bytes) p t
-    → ReadsCommand s q k
-    → ReadsParameter s t l
+    → pusher.ReadsCommand s q k
+    → pusher.ReadsParameter s t l
     → q .get / 4 ≡ t .get / 4
     → ⊥)
 
@@ -188,20 +187,15 @@ pub record Started (level : ℕ) (sli : Bool) (ws : List ℕ) : Type 0 where
   pub put : Put
   pub puts : Puts (opened .channel) (4 * length ws) put
 
--- a loan of these words, with table and semaphore memory of sizes that a step does not refuse; a table has words of 32 bits
-pub record Lendable (ws : List ℕ) (l : Loan) : Type 0 where
-  pub words : l .pusher .words ≡ ws
-  pub table : BadTable (l .puller .table) → ⊥
-  pub table-words : Words (l .puller .table)
-  pub semaphores : length (l .puller .semaphores) ≤ 1048576
-
--- d comes of c by any number of steps on these words, at each with its own loan of all else
+-- d comes of c by any number of steps on these words, refused ones too, at each with its own loan of all else; a table has words of 32
+-- bits
 pub data AfterSteps (ws : List ℕ) (c : Channel) : Channel → Type 0 where
   now : AfterSteps ws c c
   step :
       {d e : Channel} (l : Loan) (exit : List ℕ) (r : Stepped)
       → AfterSteps ws c d
-      → Lendable ws l
+      → l .pusher .words ≡ ws
+      → Words (l .puller .table)
       → StepsTo d l r exit
       → e ≡ r .channel
       → AfterSteps ws c e
@@ -209,23 +203,28 @@ pub data AfterSteps (ws : List ℕ) (c : Channel) : Channel → Type 0 where
 -- what holds of a channel at any time
 pub record Safe (ws list : List ℕ) (c : Channel) : Type 0 where
   pub no-pusher-error : pusher-record.number (c .pusher .error) ≡ 0
-  -- no step is refused
-  pub taken : (l : Loan) (exit : List ℕ) (r : Stepped) → Lendable ws l → StepsTo c l r exit → stepRefusal (r .answer) ≡ none
-  -- each method submitted, whether delivered, discarded or failing in the puller, is permitted
+  -- no step is refused but for the size of table or semaphore memory
+  pub taken :
+      (l : Loan) (exit : List ℕ) (r : Stepped)
+      → l .pusher .words ≡ ws
+      → (BadTable (l .puller .table) → ⊥)
+      → length (l .puller .semaphores) ≤ 1048576
+      → StepsTo c l r exit
+      → stepRefusal (r .answer) ≡ none
+  -- each method that a step submits, whether delivered, discarded or failing in the puller, is permitted
   pub permitted :
       (l : PusherLoan) (x : Pushed) (m : Method)
       → l .words ≡ ws
-      → GoesOn c
-      → Moves (c .setup) (c .pusher) l x
+      → MakesMove c l x
       → Submits x m
-      → permits list (m .subchannel) (m .method / 4) ≡ true
-  -- and so is each method that a step tells
+      → Permitted list (m .subchannel) (m .method / 4)
+  -- and so is each that a step tells, by its kind, subchannel, byte number and parameter
   pub told :
-      (l : Loan) (exit : List ℕ) (k : Kind) (m : Method) (r : Stepped)
-      → Lendable ws l
+      (l : Loan) (exit : List ℕ) (k b m n : ℕ) (r : Stepped)
+      → l .pusher .words ≡ ws
       → StepsTo c l r exit
-      → r .answer ≡ answer.Event (Of k m)
-      → permits list (m .subchannel) (m .method / 4) ≡ true
+      → answerValues (r .answer) ≡ k ∷ b ∷ m ∷ n ∷ []
+      → Permitted list b (m / 4)
   pub closed : c .pusher .get ≡ c .pusher .put → Closed (c .pusher)
 
 pub record StaysSafe (level : ℕ) (sli : Bool) (ws list : List ℕ) (start : Started level sli ws) : Type 0 where
@@ -240,10 +239,8 @@ pub record StaysSafe (level : ℕ) (sli : Bool) (ws list : List ℕ) (start : St
       → l .words ≡ ws
       → AfterSteps ws (start .put .channel) c
       → AfterSteps ws (start .put .channel) d
-      → GoesOn c
-      → GoesOn d
-      → ReadsCommand (c .setup) (c .pusher) k
-      → ReadsParameter (d .setup) (d .pusher) l
+      → channel.ReadsCommand c k
+      → channel.ReadsParameter d l
       → c .pusher .get / 4 ≡ d .pusher .get / 4
       → ⊥
 
@@ -252,7 +249,7 @@ Sound =
     (level : ℕ) (sli : Bool) (bytes map list : List ℕ) (r : Judgement)
     → Bytes bytes
     → Judges level sli bytes map list r
-    → r .verdict ≡ Accepted
+    → Accepts (r .verdict)
     → (start : Started level sli (wordsOf bytes))
     → StaysSafe level sli (wordsOf bytes) list start
 
@@ -275,14 +272,18 @@ Complete =
     → Sized level sli bytes list
     → ((p : ℕ) → Bad (submission (settingOf level sli) bytes list) p → ⊥)
     → Exact (submission (settingOf level sli) bytes list) map
-    → (r .verdict ≡ Accepted) × (r .count ≡ permittedPairs list)
+    → Accepts (r .verdict) × (r .count ≡ permittedPairs list)
+
+-- "the map that marks exactly the reached places" is one map.
+abbrev pub ExactIsOne : Type 0
+ExactIsOne = (x : Submission) (a b : List ℕ) → Exact x a → Exact x b → a ≡ b
 
 -- The other way round: accepted words have no bad place, whatever the map.
 abbrev pub NoneBad : Type 0
 NoneBad =
     (level : ℕ) (sli : Bool) (bytes map list : List ℕ) (r : Judgement)
     → Judges level sli bytes map list r
-    → r .verdict ≡ Accepted
+    → Accepts (r .verdict)
     → (p : ℕ)
     → Bad (submission (settingOf level sli) bytes list) p
     → ⊥

@@ -1,49 +1,73 @@
 -- Why words are not passed on, in plain terms: which reason is given, and where.
-use Prim.Native.Nat.{ℕ, _+_, _/_, _≤_, _<_}
+use Prim.Native.Nat.{ℕ, _+_, _/_, _%_, _≤_, _<_}
 use mathlib.Core.Path.{_≡_}
 use mathlib.Core.Bool.{Bool, true, false}
 use mathlib.Core.List.{List, [], _∷_, _++_}
 use mathlib.Core.Logic.{_⊎_, _↔_}
 use mathlib.Core.Option.{none, some}
-use lib.ListN.{getD}
+use lib.ListN.{length, getD}
 use Rattle.word.specs.First.{PlainCase, _if_, FirstIs}
 use Rattle.word.specs.Reading as reading
 use Rattle.word.specs.Reading.{parameterCount}
-use Rattle.word.specs.Contracts.{Presents}
+use Rattle.word.specs.Contracts.{Reads, Presents, LentAt}
+use Rattle.word.specs.Lent.{wordsOf}
 use Rattle.word.specs.declared.setting.Setting.{Setting}
 use Rattle.word.specs.declared.reading.Reading.{Reading}
-use Rattle.rules.specs.Permit.{permits}
 use Rattle.rules.specs.Map.{main, inside}
-use Rattle.rules.specs.Parameters.{methodsOf, methodFor}
 use Rattle.rules.specs.Next.{_in-state_, nexts}
-use Rattle.rules.specs.Reason.{MAP_BYTE, NO_START, RESERVED, CALL_INSIDE, RETURN_OUTSIDE, SHORT, NON_CACHE, NOT_PERMITTED, MARKED_PARAMETER, TARGET_PAST, NOT_MARKED, END_INSIDE, Submission, submission, size, commandAt, flawAt}
+use Rattle.rules.specs.Reason.{Submission, submission, size, commandAt, flawAt}
 use Rattle.rules.specs.Judging.{settingOf}
 use Rattle.rules.specs.Path.{Next}
 use Rattle.rules.specs.Answers.{findingNumber, refusedNumber, refusedPairIn, number, verdictRefusal, values}
 use Rattle.rules.specs.Contracts.{FindsOwn, MarkedAmong, Arrives, NextPairs, FirstRefuses, Judges}
+use Rattle.rules.specs.Promises.{Permitted}
 use Rattle.rules.specs.declared.pair.Pair.{Pair}
 use Rattle.rules.specs.declared.pair.Nexts.{Nexts}
 use Rattle.rules.specs.declared.reason.Finding.{Finding}
 use Rattle.rules.specs.declared.judging.FirstRefused.{FirstRefused}
 use Rattle.rules.specs.declared.judging.Judgement.{Judgement}
 
--- "Map byte: 0 not a start, 1 main, 2 inside a subroutine, 3 both."
+-- What is submitted, as these statements and those of Promises.antt name it.
+pub record Submitted : Type 0 where
+  -- "NV04-style only"
+  pub setting : (level : ℕ) (sli : Bool) → let s = settingOf level sli in (s .level .number ≡ level) × (s .mode .number ≡ 0) × (s .sli ≡ sli)
+  -- setting, words and list are those that are lent; of the words there is one for every four bytes
+  pub lent : (s : Setting) (bytes list : List ℕ) → let x = submission s bytes list in (x .setting ≡ s) × (x .words ≡ wordsOf bytes) × (x .permit ≡ list)
+  pub how-many : (s : Setting) (bytes list : List ℕ) → size (submission s bytes list) ≡ length bytes / 4
+  -- the command at a place is what `read` reads of the word that `word_at` gives; no command of NV04-style has a second word
+  pub command :
+      (s : Setting) (bytes list : List ℕ) (p w : ℕ) (r : Reading)
+      → LentAt bytes p w
+      → Reads s w 0 r
+      → commandAt (submission s bytes list) p ≡ r
+
+-- "Map byte: 0 not a start, 1 main, 2 inside a subroutine, 3 both": its lowest bit is main's mark, the one above it a subroutine's; so
+-- too of a byte over 3, by these two bits.
 abbrev pub Marks : List ℕ → ℕ → Bool → Type 0
-Marks map p false = (getD map p 0 ≡ 1) ⊎ (getD map p 0 ≡ 3)
-Marks map p true = (getD map p 0 ≡ 2) ⊎ (getD map p 0 ≡ 3)
+Marks map p false = getD map p 0 % 2 ≡ 1
+Marks map p true = getD map p 0 / 2 % 2 ≡ 1
+
+-- Parameter k of a command, from 0, goes to method n of subchannel b, n being the byte number divided by 4: by the command's number, and
+-- by its values, of which c is the count and m the byte number of its method.
+pub data GoesTo (d : Reading) (k b n : ℕ) : Type 0 where
+  -- "an increasing method then rises by one modulo 2,048";
+  increasing : (c m : ℕ) → reading.number d ≡ 1 → reading.values d ≡ c ∷ b ∷ m ∷ [] → k < c → n ≡ (m / 4 + k) % 2048 → GoesTo d k b n
+  -- a non-increasing one stays, and so does the long form's
+  non-increasing : (c m : ℕ) → reading.number d ≡ 2 → reading.values d ≡ c ∷ b ∷ m ∷ [] → k < c → n ≡ m / 4 → GoesTo d k b n
+  long : (m c : ℕ) → reading.number d ≡ 5 → reading.values d ≡ b ∷ m ∷ c ∷ [] → k < c → n ≡ m / 4 → GoesTo d k b n
 
 -- The reasons of a command d at place p in state s. Its own: by its number a return is 4, the long form, none of NV04-style's, 5, a
 -- call 8, and a reserved word 9 or more.
 abbrev pub ownPlain : Submission → Reading → ℕ → Bool → List PlainCase
 ownPlain x d p s =
     -- "3 reserved word; 4 call in subroutine; 5 return in main;
-    RESERVED if ((reading.number d ≡ 5) ⊎ (9 ≤ reading.number d))
-    ∷ CALL_INSIDE if ((reading.number d ≡ 8) × (s ≡ inside))
-    ∷ RETURN_OUTSIDE if ((reading.number d ≡ 4) × (s ≡ main))
+    3 if ((reading.number d ≡ 5) ⊎ (9 ≤ reading.number d))
+    ∷ 4 if ((reading.number d ≡ 8) × (s ≡ inside))
+    ∷ 5 if ((reading.number d ≡ 4) × (s ≡ main))
     -- 6 parameters past the end; 7 NON_CACHE method; 8 method not permitted"
-    ∷ SHORT if (size x < p + 1 + parameterCount d)
-    ∷ NON_CACHE if ((k : ℕ) × (k < parameterCount d) × Presents (x .setting .level) (methodFor (methodsOf d) k) false)
-    ∷ NOT_PERMITTED if ((k : ℕ) × (k < parameterCount d) × (permits (x .permit) (methodsOf d .subchannel) (methodFor (methodsOf d) k) ≡ false))
+    ∷ 6 if (size x < p + 1 + parameterCount d)
+    ∷ 7 if ((k : ℕ) × (b : ℕ) × (n : ℕ) × GoesTo d k b n × Presents (x .setting .level) n false)
+    ∷ 8 if ((k : ℕ) × (b : ℕ) × (n : ℕ) × GoesTo d k b n × (Permitted (x .permit) b n → ⊥))
     ∷ []
 
 -- "9 a marked place among its parameters", of which there are c
@@ -54,9 +78,9 @@ AmongPlain map p c = (k : ℕ) × (k < c) × (getD map (p + 1 + k) 0 ≡ 0 → �
 -- the last word, needs no mark."
 abbrev pub arrivalPlain : ℕ → Pair → Type 0 → List PlainCase
 arrivalPlain n q Lacks =
-    TARGET_PAST if (n < q .place)
-    ∷ END_INSIDE if ((q .place ≡ n) × (q .inside ≡ inside))
-    ∷ NOT_MARKED if ((q .place ≡ n → ⊥) × Lacks)
+    10 if (n < q .place)
+    ∷ 12 if ((q .place ≡ n) × (q .inside ≡ inside))
+    ∷ 11 if ((q .place ≡ n → ⊥) × Lacks)
     ∷ []
 
 abbrev pub nextPlain : Submission → List ℕ → List Pair → List PlainCase
@@ -66,7 +90,7 @@ nextPlain x map (q ∷ qs) = arrivalPlain (size x) q (Marks map (q .place) (q .i
 abbrev pub commandPlain : Submission → List ℕ → Reading → ℕ → Bool → List PlainCase
 commandPlain x map d p s =
     ownPlain x d p s
-    ++ (MARKED_PARAMETER if AmongPlain map p (parameterCount d) ∷ nextPlain x map (nexts d p s))
+    ++ (9 if AmongPlain map p (parameterCount d) ∷ nextPlain x map (nexts d p s))
 
 abbrev pub pairPlain : Submission → List ℕ → ℕ → Bool → List PlainCase
 pairPlain x map p s = commandPlain x map (commandAt x p) p s
@@ -99,8 +123,8 @@ pub record FirstPair (x : Submission) (map : List ℕ) (n p : ℕ) (s : Bool) : 
 -- reason n at place p
 abbrev pub Against : Submission → List ℕ → ℕ → ℕ → Type 0
 Against x map n p =
-    ((n ≡ MAP_BYTE) × WideByte x map p)
-    ⊎ (NoneWide map × (((n ≡ NO_START) × (p ≡ 0) × NoStart x map) ⊎ ((NoStart x map → ⊥) × ((s : Bool) × FirstPair x map n p s))))
+    ((n ≡ 1) × WideByte x map p)
+    ⊎ (NoneWide map × (((n ≡ 2) × (p ≡ 0) × NoStart x map) ⊎ ((NoStart x map → ⊥) × ((s : Bool) × FirstPair x map n p s))))
 
 -- A judgement that is made gives a reason and a place exactly where the paper does; so it accepts where there is none.
 abbrev pub Reasons : Type 0
@@ -114,37 +138,32 @@ Reasons =
 
 -- And of the functions that a judgement is made of.
 
--- `first_refused` gives the first marked pair that has a reason, with that reason, where no byte is over 3.
+-- `first_refused` gives the first marked pair that has a reason, with that reason.
 abbrev pub FirstPairs : Type 0
 FirstPairs =
     (setting : Setting) (bytes map list : List ℕ) (r : FirstRefused)
     → FirstRefuses setting bytes map list r
-    → NoneWide map
     → (n p : ℕ) (s : Bool)
     → ((refusedNumber r ≡ some n) × (refusedPairIn r ≡ some (p in-state s)))
     ↔ FirstPair (submission setting bytes list) map n p s
 
 -- Where the words go on after a command, by its number and its values.
-pub record NextsPlain (d : Reading) (p : ℕ) (s : Bool) (r : Nexts) : Type 0 where
-  pub few : r .count ≤ 2
+pub record NextsPlain (d : Reading) (p : ℕ) (s : Bool) (qs : List Pair) : Type 0 where
   -- "another's the word after its parameters, in the same state"
-  pub other : reading.number d ≤ 3 → (r .count ≡ 1) × (r .first ≡ (p + 1 + parameterCount d) in-state s)
+  pub other : reading.number d ≤ 3 → qs ≡ (p + 1 + parameterCount d) in-state s ∷ []
   -- "A return has no next pair"; nor has the long form, nor a reserved word
-  pub return : 4 ≤ reading.number d → reading.number d ≤ 5 → r .count ≡ 0
-  pub reserved : 9 ≤ reading.number d → r .count ≡ 0
+  pub return : 4 ≤ reading.number d → reading.number d ≤ 5 → qs ≡ []
+  pub reserved : 9 ≤ reading.number d → qs ≡ []
   -- "a jump's is its target", by a byte number
-  pub jump :
-      (t : ℕ)
-      → 6 ≤ reading.number d
-      → reading.number d ≤ 7
-      → reading.values d ≡ t ∷ []
-      → (r .count ≡ 1) × (r .first ≡ (t / 4) in-state s)
+  pub jump : (t : ℕ) → 6 ≤ reading.number d → reading.number d ≤ 7 → reading.values d ≡ t ∷ [] → qs ≡ (t / 4) in-state s ∷ []
   -- "A call is tried for its target (in a subroutine) and then for the word after it (in main)."
-  pub call :
-      (t : ℕ)
-      → reading.number d ≡ 8
-      → reading.values d ≡ t ∷ []
-      → (r .count ≡ 2) × (r .first ≡ (t / 4) in-state inside) × (r .second ≡ (p + 1) in-state main)
+  pub call : (t : ℕ) → reading.number d ≡ 8 → reading.values d ≡ t ∷ [] → qs ≡ (t / 4) in-state inside ∷ (p + 1) in-state main ∷ []
+
+-- An answer gives such pairs: how many they are, and which; one that is not there is place 0 in main.
+pub record Gives (qs : List Pair) (r : Nexts) : Type 0 where
+  pub count : r .count ≡ length qs
+  pub first : r .first ≡ getD qs 0 (0 in-state main)
+  pub second : r .second ≡ getD qs 1 (0 in-state main)
 
 -- What each of the others answers of one pair.
 pub record AtOnePair : Type 0 where
@@ -159,7 +178,9 @@ pub record AtOnePair : Type 0 where
       → Arrives n q lacks r
       → (k : ℕ)
       → findingNumber r ≡ some k ↔ FirstIs (arrivalPlain n q (lacks ≡ true)) k
-  pub nexts : (d : Reading) (p : ℕ) (s : Bool) (r : Nexts) → NextPairs d p s r → NextsPlain d p s r
+  -- the list by which the reasons and the path rule go, and the answer that gives it
+  pub next-pairs : (d : Reading) (p : ℕ) (s : Bool) → NextsPlain d p s (nexts d p s)
+  pub answers-nexts : (d : Reading) (p : ℕ) (s : Bool) (r : Nexts) → NextPairs d p s r → Gives (nexts d p s) r
   -- The path rule asks these and no map: nothing of "reasons 3 to 8, 10 and 12" is found at a pair exactly if nothing is found of its
   -- command's own, nor at a next pair, none taken to lack its mark.
   pub path-rule :

@@ -2,26 +2,25 @@
 use Prim.Native.Nat.{ℕ, _≤_, _<_}
 use mathlib.Core.Path.{_≡_, refl, sym, _∙_}
 use mathlib.Core.Bool.{Bool, true, false, or-true, false≢true}
-use mathlib.Core.List.{List}
+use mathlib.Core.List.{List, [], _∷_}
 use mathlib.Core.Logic.{_↔_}
 use mathlib.Core.Option.{none}
 use native.Mathlib.Omega.{arith}
 use lib.Dec.{leb}
 use borrow.Author.Tests.{leb-true, leb-false}
 use Rattle.word.proofs.First.{choose-true, choose-false}
+use Rattle.event.specs.Event.{number}
 use Rattle.event.specs.declared.Kind.the-variants as kind
-use Rattle.event.specs.declared.Event.the-variants.{Plain}
 use Rattle.puller.specs.Record as puller-record
 use Rattle.puller.proofs.Causes as causes
 use Rattle.pusher.specs.Record as pusher-record
 use Rattle.pusher.proofs.Sentences as errors
 use Rattle.channel.specs.Loan.{Loan}
-use Rattle.channel.specs.Answers.{stepRefusal}
+use Rattle.channel.specs.Answers.{stepRefusal, answerValues}
 use Rattle.channel.specs.Contracts.{StepsTo}
 use Rattle.channel.specs.Stepping.{isStopped}
 use Rattle.channel.specs.Idle.{idles}
 use Rattle.channel.specs.declared.record.Channel.{Channel}
-use Rattle.channel.specs.declared.stepping.Answer.the-variants as answer
 use Rattle.channel.specs.declared.stepping.Stepped.{Stepped}
 use Rattle.channel.proofs.Idling.{idle}
 use Rattle.trace.specs.End.{causeOf, endingOf}
@@ -72,36 +71,41 @@ module _ (c : Channel) where
   unfolding idles
   stopped-busy s = rw s
 
--- Of a step that is not refused:
-module _ (c : Channel) (l : Loan) (exit : List ℕ) (r : Stepped) (m : StepsTo c l r exit) (taken : stepRefusal (r .answer) ≡ none) (n : ℕ) where
-  abbrev Says : Type 0
-  Says = r .answer ≡ answer.Event (Plain kind.Idle)
-
-  -- a channel that does not idle says something else
-  says-other : idles c ≡ false → Says → ⊥
-  says-other b e = false≢true (sym b ∙ idle c (idles c) l exit r refl m taken .1 e)
-
-  -- the end is 'idle' exactly if the step says so,
-  pub idle-iff : endingNumber (endingOf c n) ≡ 2 ↔ Says
+module _ (c : Channel) (n : ℕ) where
+  -- the end is 'idle' exactly if the channel idles,
+  pub idle-iff : endingNumber (endingOf c n) ≡ 2 ↔ idles c ≡ true
   unfolding endingNumber endNumber
   idle-iff = go (isStopped (c .pusher) (c .puller)) (idles c) (leb 65536 n) refl refl refl
     where
-      go : (a b d : Bool) → isStopped (c .pusher) (c .puller) ≡ a → idles c ≡ b → leb 65536 n ≡ d → endingNumber (endingOf c n) ≡ 2 ↔ Says
-      go true b d s i h = rw (if-stopped c n s) (λ e. absurd (omega arith), λ e. absurd (says-other (stopped-busy c s) e))
-      go false true d s i h = (λ e. idle c (idles c) l exit r refl m taken .0 i, λ e. rw (if-idle c n s i))
-      go false false true s i h = rw (if-late c n s i h) (λ e. absurd (omega arith), λ e. absurd (says-other i e))
-      go false false false s i h = rw (if-early c n s i h) (λ e. absurd (omega arith), λ e. absurd (says-other i e))
+      busy : idles c ≡ false → idles c ≡ true → ⊥
+      busy b i = false≢true (sym b ∙ i)
 
-  -- and of one that goes on, 'budget' exactly after 65,536 steps
-  pub budget-iff : isStopped (c .pusher) (c .puller) ≡ false → (Says → ⊥) → (endingNumber (endingOf c n) ≡ 3 ↔ 65536 ≤ n) × (endingNumber (endingOf c n) ≡ 0 ↔ n < 65536)
+      go : (a b d : Bool) → isStopped (c .pusher) (c .puller) ≡ a → idles c ≡ b → leb 65536 n ≡ d → endingNumber (endingOf c n) ≡ 2 ↔ idles c ≡ true
+      go true b d s i h = rw (if-stopped c n s) (λ e. absurd (omega arith), λ e. absurd (busy (stopped-busy c s) e))
+      go false true d s i h = (λ e. i, λ e. rw (if-idle c n s i))
+      go false false true s i h = rw (if-late c n s i h) (λ e. absurd (omega arith), λ e. absurd (busy i e))
+      go false false false s i h = rw (if-early c n s i h) (λ e. absurd (omega arith), λ e. absurd (busy i e))
+
+  -- so exactly if a step that is not refused says so,
+  pub step-iff :
+      (l : Loan) (exit : List ℕ) (r : Stepped)
+      → StepsTo c l r exit
+      → stepRefusal (r .answer) ≡ none
+      → endingNumber (endingOf c n) ≡ 2 ↔ (answerValues (r .answer) ≡ number kind.Idle ∷ [])
+  step-iff l exit r m taken = let says = idle .step c (idles c) l exit r refl m taken in (λ e. says .0 (idle-iff .0 e), λ e. idle-iff .1 (says .1 e))
+
+  -- and of one that neither is stopped nor idles, 'budget' exactly after 65,536 steps
+  pub budget-iff :
+      isStopped (c .pusher) (c .puller) ≡ false
+      → idles c ≡ false
+      → (endingNumber (endingOf c n) ≡ 3 ↔ 65536 ≤ n) × (endingNumber (endingOf c n) ≡ 0 ↔ n < 65536)
   unfolding endingNumber endNumber
-  budget-iff s quiet = go (idles c) (leb 65536 n) refl refl
+  budget-iff s i = go (leb 65536 n) refl
     where
-      go : (b d : Bool) → idles c ≡ b → leb 65536 n ≡ d → (endingNumber (endingOf c n) ≡ 3 ↔ 65536 ≤ n) × (endingNumber (endingOf c n) ≡ 0 ↔ n < 65536)
-      go true d i h = absurd (quiet (idle c (idles c) l exit r refl m taken .0 i))
-      go false true i h =
+      go : (d : Bool) → leb 65536 n ≡ d → (endingNumber (endingOf c n) ≡ 3 ↔ 65536 ≤ n) × (endingNumber (endingOf c n) ≡ 0 ↔ n < 65536)
+      go true h =
           let late = leb-true 65536 n h in
           rw (if-late c n s i h) ((λ e. late, λ x. refl), (λ e. absurd (omega arith), λ x. absurd (omega arith)))
-      go false false i h =
+      go false h =
           let early = leb-false 65536 n h in
           rw (if-early c n s i h) ((λ e. absurd (omega arith), λ x. absurd (omega arith)), (λ e. early, λ x. refl))

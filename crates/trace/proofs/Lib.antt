@@ -4,7 +4,11 @@ pub mod Names
 pub mod Loading
 pub mod Telling
 pub mod Room
+pub mod Spelling
 pub mod Ends
+pub mod Beginning
+pub mod Told
+pub mod NextLine
 pub mod Turns
 pub mod Examples
 pub mod Promises

@@ -1,10 +1,10 @@
 -- Words read from bytes, stored one after the other. Assumes nothing.
 use Prim.Native.Nat.{ℕ, zero, suc, _+_, _/_, _≤_, _<_, min}
 use mathlib.Core.Path.{_≡_, sym, ap, _∙_}
-use mathlib.Core.List.{List, [], _∷_, _++_}
+use mathlib.Core.List.{List, [], _∷_, _++_, append-nil}
 use native.Mathlib.Omega.{arith}
 use lib.ListN.{length, getD, take, drop, set, length-take}
-use lib.Seq.{sets, length-sets, sets-eq, take-all, take-append-le, drop-append-seam}
+use lib.Seq.{sets, length-sets, sets-eq, take-all, take-append-le, drop-length, drop-append-seam}
 use Rattle.word.specs.Lent.{wordsOf}
 use Rattle.word.proofs.Bytes.{words-length}
 use Rattle.trace.specs.LineByLine.{fitting}
@@ -55,18 +55,27 @@ module _ (bytes room : List ℕ) (n : ℕ) (is : n ≡ min (length bytes / 4) (l
   pub how-many : n ≡ length (fitting bytes room)
   how-many = omega (arith, length-take (length room) (wordsOf bytes), words-length bytes)
 
--- where there is room they are all of them, in front of what was there
-pub in-front : (bytes room : List ℕ) (n : ℕ) (exit : List ℕ) → Loads bytes room n exit → length bytes / 4 ≤ length room → (take n exit ≡ wordsOf bytes) × (drop n exit ≡ drop n room)
-in-front bytes room n exit h enough =
-    let ws = wordsOf bytes in
-    let all : fitting bytes room ≡ ws = take-all (length room) ws (omega (arith, words-length bytes)) in
-    let count : n ≡ length ws = h .answer ∙ ap length all in
-    let behind : 0 + length ws ≡ n = omega arith in
-    let front : exit ≡ ws ++ drop n room =
-    h .memory
-    ∙ ap (sets room 0) all
-    ∙ sets-eq ws room 0 (omega (arith, words-length bytes))
-    ∙ ap (λ (k : ℕ). ws ++ drop k room) behind in
-    let own : take n (ws ++ drop n room) ≡ ws = take-append-le n ws (drop n room) (omega arith) ∙ take-all n ws (omega arith) in
-    let rest : drop n (ws ++ drop n room) ≡ drop n room = ap (λ (k : ℕ). drop k (ws ++ drop n room)) count ∙ drop-append-seam ws (drop n room) in
-    (ap (take n) front ∙ own, ap (drop n) front ∙ rest)
+-- what is read stands in front of what was there
+module _ (bytes room : List ℕ) (n : ℕ) (exit : List ℕ) (h : Loads bytes room n exit) where
+  in-front : exit ≡ fitting bytes room ++ drop n room
+  in-front =
+      let behind : 0 + length (fitting bytes room) ≡ n = omega (arith, h .answer) in
+      h .memory ∙ sets-eq (fitting bytes room) room 0 (omega (arith, length-take (length room) (wordsOf bytes))) ∙ ap (λ (k : ℕ). fitting bytes room ++ drop k room) behind
+
+  -- and is all of the words where there is room,
+  pub all-fit : length bytes / 4 ≤ length room → (n ≡ length bytes / 4) × (take n exit ≡ wordsOf bytes) × (drop n exit ≡ drop n room)
+  all-fit enough =
+      let ws = wordsOf bytes in
+      let all : fitting bytes room ≡ ws = take-all (length room) ws (omega (arith, words-length bytes)) in
+      let count : n ≡ length ws = h .answer ∙ ap length all in
+      let front : exit ≡ ws ++ drop n room = in-front ∙ ap (λ (x : List ℕ). x ++ drop n room) all in
+      let own : take n (ws ++ drop n room) ≡ ws = take-append-le n ws (drop n room) (omega arith) ∙ take-all n ws (omega arith) in
+      let rest : drop n (ws ++ drop n room) ≡ drop n room = ap (λ (k : ℕ). drop k (ws ++ drop n room)) count ∙ drop-append-seam ws (drop n room) in
+      (count ∙ words-length bytes, ap (take n) front ∙ own, ap (drop n) front ∙ rest)
+
+  -- or else fills it
+  pub some-fit : length room ≤ length bytes / 4 → (n ≡ length room) × (exit ≡ take n (wordsOf bytes))
+  some-fit short =
+      let full : n ≡ length room = h .answer ∙ omega (arith, length-take (length room) (wordsOf bytes), words-length bytes) in
+      let none-left : drop n room ≡ [] = ap (λ (k : ℕ). drop k room) full ∙ drop-length room in
+      (full, in-front ∙ ap (λ (x : List ℕ). fitting bytes room ++ x) none-left ∙ append-nil (fitting bytes room) ∙ ap (λ (k : ℕ). take k (wordsOf bytes)) (sym full))

@@ -1,9 +1,9 @@
 -- Every line has room for its text. Assumes nothing.
-use Prim.Native.Nat.{ℕ, zero, suc, _+_, _-_, _/_, _^_, _≤_, min}
+use Prim.Native.Nat.{ℕ, zero, suc, _+_, _-_, _^_, _≤_, min}
 use Prim.Native.String.{String}
 use mathlib.Core.Path.{_≡_, refl, ap, _∙_}
 use mathlib.Core.Bool.{Bool}
-use mathlib.Core.List.{List, _∷_, _++_}
+use mathlib.Core.List.{List, [], _∷_, _++_}
 use mathlib.Core.Option.{Option, none, some}
 use native.Mathlib.Omega.{arith}
 use lib.Dec.{ltb}
@@ -29,13 +29,10 @@ use Rattle.trace.specs.declared.end.Cause.{Cause}
 use Rattle.trace.specs.declared.end.Cause.the-variants.{Pusher, Puller}
 use Rattle.trace.specs.declared.end.End.{End}
 use Rattle.trace.specs.declared.end.End.the-variants.{Error, Idle, Budget}
+use Rattle.trace.proofs.Digits.{digits-many}
 use Rattle.trace.proofs.Names.{short}
 
 -- a number has at most 21 digits
-digits-many : (k n : ℕ) → length (digits 10 k n) ≡ k
-digits-many zero n = refl
-digits-many (suc k) n = length-append (digits 10 k (n / 10)) _ ∙ rw (digits-many k (n / 10)) (omega arith)
-
 width-low : (n : ℕ) → width n ≤ 21
 unfolding width orElse
 width-low n = go (lowest f 20) refl
@@ -139,3 +136,7 @@ end-has e steps get ref l h = has _ l (omega (arith, end-short e steps get ref))
 
 pub refused-has : (n : ℕ) (l : Line) → l ≡ lineOf (refusedText n) → Has (refusedText n) l
 refused-has n l h = has _ l (omega (arith, refused-short n)) h
+
+-- and one without a text has none
+pub none-has : (l : Line) → l ≡ lineOf [] → Has [] l
+none-has l h = has [] l (omega arith) h

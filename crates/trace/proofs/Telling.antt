@@ -12,7 +12,7 @@ use Rattle.channel.specs.declared.stepping.Answer.{Answer}
 use Rattle.channel.specs.declared.stepping.Answer.the-variants as answer
 use Rattle.channel.specs.declared.stepping.Stepped.{Stepped}
 use Rattle.trace.specs.Line.{lineOf}
-use Rattle.trace.specs.Lines.{stepText, endText, refusedText}
+use Rattle.trace.specs.Lines.{endText, refusedText}
 use Rattle.trace.specs.End.{endingOf}
 use Rattle.trace.specs.LineByLine.{lending, closed, closing, traceAt, answered, steppedOn, orEnd, running, byStage, tellOf}
 use Rattle.trace.specs.Printed.{over?}
@@ -22,26 +22,28 @@ use Rattle.trace.specs.declared.end.End.{End}
 use Rattle.trace.specs.declared.end.Ending.{Ending}
 use Rattle.trace.specs.declared.end.Ending.the-variants.{GoesOn, Over as Ended}
 use Rattle.trace.specs.declared.run.Stage.{Stage}
-use Rattle.trace.specs.declared.run.Stage.the-variants.{Refused, Running}
+use Rattle.trace.specs.declared.run.Stage.the-variants.{Running}
 use Rattle.trace.specs.declared.run.Trace.{Trace}
 use Rattle.trace.specs.declared.run.Told.{Told}
 
--- a step whose answer is an event, and one that is refused
-module _ (t : Trace) (o : Outcome) (r : Stepped) (exit : List ℕ) (is : r ≡ o .stepped) (memory : exit ≡ o .memory) (l : Line) where
-  by-answer : (a : Answer) → r .answer ≡ a → steppedOn t o ≡ answered t (r .channel) exit a
+-- a step, by its answer
+module _ (t : Trace) (o : Outcome) (r : Stepped) (exit : List ℕ) (is : r ≡ o .stepped) (memory : exit ≡ o .memory) where
+  pub by-answer : (a : Answer) → r .answer ≡ a → steppedOn t o ≡ answered t (r .channel) exit a
   by-answer a e = rw (memory, ← is, e)
 
-  pub on-event :
-      (e : Event)
-      → r .answer ≡ answer.Event e
-      → l ≡ lineOf (stepText (t .steps + 1) (t .channel .pusher .get) e)
-      → Leaves (steppedOn t o) (record { line = l; trace = traceAt Running (r .channel) (t .steps + 1) }) exit
-  unfolding answered
-  on-event e a h = rw (by-answer _ a, h) (record { answer = refl; memory = refl })
+  -- which is an event, or a refusal
+  module _ (l : Line) where
+    pub on-event :
+        (e : Event)
+        → r .answer ≡ answer.Event e
+        → l ≡ answered t (r .channel) exit (answer.Event e) .told .line
+        → Leaves (steppedOn t o) (record { line = l; trace = traceAt Running (r .channel) (t .steps + 1) }) exit
+    unfolding answered
+    on-event e a h = rw (by-answer _ a, h) (record { answer = refl; memory = refl })
 
-  pub on-refusal : (n : Refusal) (told : Told) → r .answer ≡ answer.Refused n → l ≡ lineOf (refusedText (n .number)) → told ≡ closed t l → Leaves (steppedOn t o) told exit
-  unfolding answered
-  on-refusal n told a h k = rw (by-answer _ a, k, h) (record { answer = refl; memory = refl })
+    pub on-refusal : (n : Refusal) (told : Told) → r .answer ≡ answer.Refused n → l ≡ lineOf (refusedText (n .number)) → told ≡ closed t l → Leaves (steppedOn t o) told exit
+    unfolding answered
+    on-refusal n told a h k = rw (by-answer _ a, k, h) (record { answer = refl; memory = refl })
 
 -- a run that has ended, and one that has not
 module _ (t : Trace) (ws sems : List ℕ) (a : Ending) (is : a ≡ endingOf (t .channel) (t .steps)) where

@@ -8,24 +8,27 @@ use mathlib.Core.Option.{Option, none, some}
 use native.Mathlib.Numerals.{add-one}
 use native.Mathlib.Omega.{arith}
 use lib.ListN.{length, getD, take, replicate, length-replicate}
-use borrow.Author.Tests.{ltb-false, leb-false}
+use borrow.Author.Tests.{leb-false}
 use Rattle.word.specs.First.{first}
 use Rattle.word.specs.Lowest.{lowest}
 use Rattle.word.specs.Lent.{wordsOf}
 use Rattle.word.specs.Setting.{refusedOr}
-use Rattle.word.proofs.First.{by-test, none-fails}
+use Rattle.word.proofs.First.{by-test}
 use Rattle.word.proofs.Lowest.{lowest-some, lowest-none}
 use Rattle.word.proofs.Settings.{accepted}
 use Rattle.word.proofs.Bytes.{words-length, words-narrow}
 use Rattle.event.specs.declared.Event.{Event}
 use Rattle.channel.specs.Answers.{stepRefusal}
+use Rattle.channel.specs.Loan.{toStep}
+use Rattle.channel.specs.Contracts.{StepsTo}
 use Rattle.channel.specs.Putting.{putOf}
 use Rattle.channel.specs.Many.{after}
 use Rattle.channel.specs.Promises.{WellFormed}
 use Rattle.channel.specs.declared.record.Channel.{Channel}
 use Rattle.channel.specs.declared.stepping.Answer.the-variants as answer
+use Rattle.channel.specs.declared.stepping.Stepped.{Stepped}
 use Rattle.channel.proofs.Refusals.{refused-one}
-use Rattle.channel.proofs.StaysWellFormed.{opened-formed, put-keeps}
+use Rattle.channel.proofs.StaysWellFormed.{put-keeps}
 use Rattle.channel.proofs.Many.{is-event, none-refused}
 use Rattle.trace.specs.Text.{orElse}
 use Rattle.trace.specs.Line.{lineOf}
@@ -33,14 +36,16 @@ use Rattle.trace.specs.Lines.{stepText, endText, refusedText}
 use Rattle.trace.specs.End.{endingOf}
 use Rattle.trace.specs.LineByLine.{fresh, traceAt, programCases, beginOf, closed, answered, orEnd, byStage}
 use Rattle.trace.specs.Printed.{lentFor, momentAfter, stepAfter, endingAt, over?, stepsOf, answerText, lineAfter, linesFrom, endLine, runText, printed}
+use Rattle.trace.specs.Answers.{stageNumber}
 use Rattle.trace.specs.Contracts.{Tells}
-use Rattle.trace.specs.Promises.{Tells-in-turn, over, line}
+use Rattle.trace.specs.Promises.{Tells-in-turn, over, line, LeadsTo, none-made, step-made}
 use Rattle.trace.specs.declared.end.End.{End}
 use Rattle.trace.specs.declared.end.Ending.{Ending}
 use Rattle.trace.specs.declared.end.Ending.the-variants.{GoesOn, Over}
 use Rattle.trace.specs.declared.run.Stage.the-variants as stage
 use Rattle.trace.specs.declared.run.Trace.{Trace}
 use Rattle.trace.specs.declared.run.Told.{Told}
+use Rattle.trace.proofs.Beginning.{fresh-formed, begins-refused, begins-put, few-bytes}
 use Rattle.trace.proofs.Room.{step-has, end-has, refused-has}
 
 -- whether an ending is over, and then which it is
@@ -82,15 +87,11 @@ module _ (ws : List ℕ) (t : Trace) (sems : List ℕ) (told : Told) (exit : Lis
   line-more : (k : ℕ) (rest : List ℕ) → Tells-in-turn ws k (told .trace) exit rest → Tells-in-turn ws (suc k) t sems (text ++ rest)
   line-more k rest more = subst (λ (x : List ℕ). Tells-in-turn ws (suc k) t sems (x ++ rest)) is (line k t sems told exit rest tells more)
 
-  line-last : told .trace .stage ≡ stage.Over → Tells-in-turn ws 1 t sems text
+  line-last : stageNumber (told .trace .stage) ≡ 3 → Tells-in-turn ws 1 t sems text
   line-last o = subst (Tells-in-turn ws 1 t sems) (append-nil text) (line-more 0 [] (over (told .trace) exit o))
 
 -- The run of bytes that are not too many.
 module _ (bytes : List ℕ) (narrow : (i : ℕ) → getD bytes i 0 < 2 ^ 8) (few : length bytes ≤ 32768) where
-  -- the channel as it is opened
-  fresh-formed : WellFormed fresh
-  fresh-formed = opened-formed 3 0 0 false 0 0xffffffff [] (omega arith)
-
   begun-formed : WellFormed (beginOf (length bytes) .channel)
   unfolding beginOf refusedOr
   begun-formed = go (first (programCases (length bytes)))
@@ -99,7 +100,7 @@ module _ (bytes : List ℕ) (narrow : (i : ℕ) → getD bytes i 0 < 2 ^ 8) (few
       go none = put-keeps fresh (length bytes) fresh-formed (omega arith)
       go (some n) = fresh-formed
 
-  -- and no step is refused
+  -- no step is refused
   none-told : (n : ℕ) → stepRefusal (stepAfter bytes n .stepped .answer) ≡ none
   none-told n =
       let long = words-length bytes in
@@ -119,7 +120,7 @@ module _ (bytes : List ℕ) (narrow : (i : ℕ) → getD bytes i 0 < 2 ^ 8) (few
 
   -- the end line
   last-turn : (n : ℕ) (e : End) → endingAt bytes n ≡ Over e → Tells-in-turn (wordsOf bytes) 1 (at n) (momentAfter bytes n .semaphores) (lastLine n)
-  unfolding byStage orEnd endLine
+  unfolding byStage orEnd endLine stageNumber
   last-turn n e h =
       let c = momentAfter bytes n .channel in
       let text = endText e n (c .pusher .get) (c .puller .reference) in
@@ -156,18 +157,48 @@ module _ (bytes : List ℕ) (narrow : (i : ℕ) → getD bytes i 0 < 2 ^ 8) (few
       subst (Tells-in-turn (wordsOf bytes) (suc (suc k)) (at n) (momentAfter bytes n .semaphores)) (sym (append-assoc (lineAfter bytes n) (linesFrom bytes (suc n) k) (lastLine steps)))
       (next-turn n (suc k) (x .0) (linesFrom bytes (suc n) k ++ lastLine steps) h (x .1) (turns k (suc n) (omega arith)))
 
+-- Steps lead from the beginning to the moments of the run, where nothing is lent but the words and the semaphore words.
+module _ (bytes : List ℕ) where
+  -- at a moment they are the run's
+  step-there :
+      (n : ℕ) (d : Channel) (sems exit : List ℕ) (r : Stepped)
+      → d ≡ momentAfter bytes n .channel
+      → sems ≡ momentAfter bytes n .semaphores
+      → StepsTo d (toStep (wordsOf bytes) [] [] sems) r exit
+      → (r ≡ stepAfter bytes n .stepped) × (exit ≡ stepAfter bytes n .memory)
+  step-there n d sems exit r a b m = rw (m .answer, m .memory, a, b) (refl, refl)
+
+  -- so each leads to the next
+  moments :
+      (d : Channel) (sems : List ℕ)
+      → LeadsTo (wordsOf bytes) (beginOf (length bytes) .channel) d sems
+      → (n : ℕ) × (d ≡ momentAfter bytes n .channel) × (sems ≡ momentAfter bytes n .semaphores)
+  unfolding after
+  moments d sems none-made = (0, refl, refl)
+  moments d sems (step-made before after lent exit r led m is) =
+      let x = moments before lent led in
+      let there = step-there (x .0) before lent exit r (x .1) (x .2) m in
+      (suc (x .0), is ∙ ap (λ (y : Stepped). y .channel) (there .0), there .1)
+
+  pub none-refused-there :
+      (d : Channel) (sems exit : List ℕ) (r : Stepped)
+      → ((i : ℕ) → getD bytes i 0 < 2 ^ 8)
+      → first (programCases (length bytes)) ≡ none
+      → LeadsTo (wordsOf bytes) (beginOf (length bytes) .channel) d sems
+      → StepsTo d (toStep (wordsOf bytes) [] [] sems) r exit
+      → stepRefusal (r .answer) ≡ none
+  none-refused-there d sems exit r narrow fine led m =
+      let x = moments d sems led in
+      ap (λ (y : Stepped). stepRefusal (y .answer)) (step-there (x .0) d sems exit r (x .1) (x .2) m .0) ∙ none-told bytes narrow (few-bytes (length bytes) fine) (x .0)
+
 -- The beginning of a run: one that is not refused, and one that is.
 module _ (bytes : List ℕ) where
   begins : first (programCases (length bytes)) ≡ none → beginOf (length bytes) ≡ traceAt stage.Running (momentAfter bytes 0 .channel) 0
-  unfolding after beginOf
-  begins e = accepted _ _ e ∙ ap (λ (t : Trace). traceAt stage.Running (t .channel) 0) (sym (accepted _ _ e))
-
-  begins-refused : (n : ℕ) → first (programCases (length bytes)) ≡ some n → beginOf (length bytes) ≡ traceAt (stage.Refused (record { number = n })) fresh 0
-  unfolding beginOf refusedOr
-  begins-refused n e = rw e
+  unfolding after
+  begins e = let put = begins-put (length bytes) e in put ∙ ap (λ (t : Trace). traceAt stage.Running (t .channel) 0) (sym put)
 
   refused-turn : (n : ℕ) (sems : List ℕ) → Tells-in-turn (wordsOf bytes) 1 (traceAt (stage.Refused (record { number = n })) fresh 0) sems (refusedText n)
-  unfolding byStage
+  unfolding byStage stageNumber
   refused-turn n sems =
       let t = traceAt (stage.Refused (record { number = n })) fresh 0 in
       line-last (wordsOf bytes) t sems (closed t (lineOf (refusedText n))) sems (record { answer = refl; memory = refl }) (refusedText n)
@@ -186,7 +217,6 @@ module _ (bytes : List ℕ) where
           → (k : ℕ) × (k ≤ 65537)
           × Tells-in-turn (wordsOf bytes) k (beginOf (length bytes)) (replicate 1024 0) (refusedOr (λ r. refusedText (r .number)) (first (programCases (length bytes))) (runText bytes))
       go none e =
-          let few = ltb-false 32768 (length bytes) (none-fails (programCases (length bytes)) e .0) in
           let h = last bytes .0 in
-          rw (begins e, accepted (λ r. refusedText (r .number)) (runText bytes) e) (suc (stepsOf bytes), omega arith, turns bytes narrow few (stepsOf bytes) 0 (omega arith))
-      go (some n) e = rw (e, refused-one (λ r. refusedText (r .number)) (runText bytes) n, begins-refused n e) (1, omega arith, refused-turn n (replicate 1024 0))
+          rw (begins e, accepted (λ r. refusedText (r .number)) (runText bytes) e) (suc (stepsOf bytes), omega arith, turns bytes narrow (few-bytes (length bytes) e) (stepsOf bytes) 0 (omega arith))
+      go (some n) e = rw (e, refused-one (λ r. refusedText (r .number)) (runText bytes) n, begins-refused (length bytes) n e) (1, omega arith, refused-turn n (replicate 1024 0))

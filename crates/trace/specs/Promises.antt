@@ -1,43 +1,45 @@
 -- The promises about the trace, each a statement that is proved under its own name in proofs/.
-use Prim.Native.Nat.{ℕ, suc, _-_, _/_, _%_, _^_, _≤_, _<_}
+use Prim.Native.Nat.{ℕ, suc, _+_, _-_, _*_, _/_, _%_, _^_, _≤_, _<_}
+use Prim.Native.Char.{Char, code}
+use Prim.Native.String.{String, _∷_ as _and_}
 use mathlib.Core.Path.{_≡_}
-use mathlib.Core.List.{List, [], _∷_, _++_}
-use mathlib.Core.Logic.{_↔_}
+use mathlib.Core.Bool.{Bool, true, false}
+use mathlib.Core.List.{List, [], _∷_, _++_, map, foldl}
+use mathlib.Core.Logic.{_↔_, _⊎_}
 use mathlib.Core.Option.{none, some}
 use lib.ListN.{length, getD, take, drop, replicate}
 use Rattle.word.specs.First.{PlainCase, _if_, FirstIs}
 use Rattle.word.specs.Lent.{wordsOf}
-use Rattle.word.specs.Setting.{SIZE, LENGTH}
+use Rattle.word.specs.Answers.{checkRefusal}
 use Rattle.word.specs.declared.setting.Refusal.{Refusal}
+use Rattle.event.specs.Event.{number, values}
 use Rattle.event.specs.declared.Event.{Event}
-use Rattle.event.specs.declared.Event.the-variants as event
+use Rattle.event.specs.declared.Kind.{Kind}
 use Rattle.event.specs.declared.Kind.the-variants as kind
 use Rattle.pusher.specs.Record as pusher
 use Rattle.puller.specs.Record as puller
-use Rattle.channel.specs.Answers.{stepRefusal}
-use Rattle.channel.specs.Loan.{Loan}
-use Rattle.channel.specs.Contracts.{StepsTo}
+use Rattle.channel.specs.Answers.{openingRefusal, stepRefusal, answerValues}
+use Rattle.channel.specs.Loan.{Loan, toStep}
+use Rattle.channel.specs.Contracts.{Opens, Puts, StepsTo, Idles}
 use Rattle.channel.specs.declared.record.Channel.{Channel}
-use Rattle.channel.specs.declared.stepping.Answer.the-variants as answer
+use Rattle.channel.specs.declared.opening.Opened.{Opened}
+use Rattle.channel.specs.declared.putting.Put.{Put}
 use Rattle.channel.specs.declared.stepping.Stepped.{Stepped}
-use Rattle.trace.specs.Text.{text}
-use Rattle.trace.specs.Lines.{stepText, endText, refusedText}
+use Rattle.trace.specs.Text.{text, decimal}
+use Rattle.trace.specs.Names.{kindName, causeName, refusalName}
 use Rattle.trace.specs.Printed.{printed}
-use Rattle.trace.specs.Answers.{stageRefusal, endingNumber}
+use Rattle.trace.specs.Answers.{stageNumber, stageRefusal, causeNumber, causeValues, endNumber, endValues, endingNumber, endingValues}
 use Rattle.trace.specs.Contracts.{StepLine, EndLine, RefusedLine, Ends, Loads, Begins, Tells}
 use Rattle.trace.specs.declared.line.Line.{Line}
-use Rattle.trace.specs.declared.end.Cause.the-variants as cause
+use Rattle.trace.specs.declared.end.Cause.{Cause}
 use Rattle.trace.specs.declared.end.End.{End}
-use Rattle.trace.specs.declared.end.End.the-variants.{Error}
 use Rattle.trace.specs.declared.end.Ending.{Ending}
-use Rattle.trace.specs.declared.end.Ending.the-variants as ending
-use Rattle.trace.specs.declared.run.Stage.the-variants as stage
 use Rattle.trace.specs.declared.run.Trace.{Trace}
 use Rattle.trace.specs.declared.run.Told.{Told}
 
--- Promise 1. "Over 32,768 bytes prints only refused=SIZE (tried first), a part word refused=LENGTH."
+-- Promise 1. "Over 32,768 bytes prints only refused=SIZE (tried first), a part word refused=LENGTH": 8 and 9.
 abbrev pub programPlain : ℕ → List PlainCase
-programPlain bytes = SIZE if (32768 < bytes) ∷ LENGTH if (bytes % 4 ≡ 0 → ⊥) ∷ []
+programPlain bytes = 8 if (32768 < bytes) ∷ 9 if (bytes % 4 ≡ 0 → ⊥) ∷ []
 
 pub record Refused : Type 0 where
   pub begin : (bytes : ℕ) (t : Trace) → Begins bytes t → (n : ℕ) → stageRefusal (t .stage) ≡ some n ↔ FirstIs (programPlain bytes) n
@@ -45,7 +47,7 @@ pub record Refused : Type 0 where
   pub unchanged :
       (t : Trace) (ws sems : List ℕ) (told : Told) (exit : List ℕ)
       → Tells t ws sems told exit
-      → told .trace .stage ≡ stage.Over
+      → stageNumber (told .trace .stage) ≡ 3
       → (told .trace .channel ≡ t .channel) × (exit ≡ sems)
 
 -- Each contract leaves one outcome: any two that it allows are equal.
@@ -62,36 +64,66 @@ pub record One : Type 0 where
       → Tells t ws sems b y
       → (a ≡ b) × (x ≡ y)
 
--- "`end` is error if the channel is stopped, else idle if a further step would be, else budget": of a channel and a step of it that is
--- not refused, whatever is lent to it. A number 0 of the errors is none.
+-- "level 3, SLI off, empty table, ..., limit 0xffffffff, put at the end": a run begins at the channel that is opened so in NV04-style,
+-- whatever ib_order is asked for, and no step is made.
+pub record StartsAt (c : Channel) (n : ℕ) (t : Trace) : Type 0 where
+  pub channel : t .channel ≡ c
+  pub stage : stageNumber (t .stage) ≡ n
+  pub steps : t .steps ≡ 0
+
+pub record Begun : Type 0 where
+  pub runs :
+      (bytes order : ℕ) (t : Trace) (o : Opened) (q : Put)
+      → Begins bytes t
+      → stageRefusal (t .stage) ≡ none
+      → Opens 3 0 order false 0 0xffffffff [] o
+      → Puts (o .channel) bytes q
+      → (openingRefusal (o .answer) ≡ none) × (checkRefusal (q .answer) ≡ none) × StartsAt (q .channel) 2 t
+  -- of a run that is refused, put is not set
+  pub refused :
+      (bytes order n : ℕ) (t : Trace) (o : Opened)
+      → Begins bytes t
+      → stageRefusal (t .stage) ≡ some n
+      → Opens 3 0 order false 0 0xffffffff [] o
+      → StartsAt (o .channel) 1 t
+
+-- "`end` is error if the channel is stopped, else idle if a further step would be, else budget", at every channel. A number 0 of the
+-- errors is none.
 pub record Ended : Type 0 where
+  -- 1 is error, with its cause: 1 the pusher's or 2 the puller's, and the error's number
   pub pusher-error :
       (c : Channel) (n : ℕ) (a : Ending)
       → Ends c n a
       → (pusher.number (c .pusher .error) ≡ 0 → ⊥)
-      → a ≡ ending.Over (Error (cause.Pusher (c .pusher .error)))
+      → (endingNumber a ≡ 1) × (endingValues a ≡ 1 ∷ pusher.number (c .pusher .error) ∷ [])
   pub puller-error :
       (c : Channel) (n : ℕ) (a : Ending)
       → Ends c n a
       → pusher.number (c .pusher .error) ≡ 0
       → (puller.number (c .puller .error) ≡ 0 → ⊥)
-      → a ≡ ending.Over (Error (cause.Puller (c .puller .error)))
-  -- 2 is idle, 3 budget, and 0 goes on
-  pub idle :
+      → (endingNumber a ≡ 1) × (endingValues a ≡ 2 ∷ puller.number (c .puller .error) ∷ [])
+  -- 2 is idle, exactly if the channel's `idle` says so;
+  pub idle : (c : Channel) (n : ℕ) (a : Ending) (b : Bool) → Ends c n a → Idles c b → endingNumber a ≡ 2 ↔ b ≡ true
+  -- "if a further step would be": exactly if one that is not refused says so, whatever is lent to it
+  pub further-step :
       (c : Channel) (n : ℕ) (a : Ending) (l : Loan) (exit : List ℕ) (r : Stepped)
       → Ends c n a
       → StepsTo c l r exit
       → stepRefusal (r .answer) ≡ none
-      → endingNumber a ≡ 2 ↔ (r .answer ≡ answer.Event (event.Plain kind.Idle))
+      → endingNumber a ≡ 2 ↔ (answerValues (r .answer) ≡ number kind.Idle ∷ [])
+  -- 3 is budget, and 0 goes on: of a channel that is neither stopped nor idle
   pub budget :
-      (c : Channel) (n : ℕ) (a : Ending) (l : Loan) (exit : List ℕ) (r : Stepped)
+      (c : Channel) (n : ℕ) (a : Ending) (b : Bool)
       → Ends c n a
       → pusher.number (c .pusher .error) ≡ 0
       → puller.number (c .puller .error) ≡ 0
-      → StepsTo c l r exit
-      → stepRefusal (r .answer) ≡ none
-      → (r .answer ≡ answer.Event (event.Plain kind.Idle) → ⊥)
+      → Idles c b
+      → b ≡ false
       → (endingNumber a ≡ 3 ↔ 65536 ≤ n) × (endingNumber a ≡ 0 ↔ n < 65536)
+
+-- An ending is told by its number and values: what a promise says of an ending, it says of them.
+abbrev pub Endings : Type 0
+Endings = (a b : Ending) → endingNumber a ≡ endingNumber b → endingValues a ≡ endingValues b → a ≡ b
 
 -- Every line has room for its text: its length is the text's, and the bytes are the text's and then 0.
 pub record Has (t : List ℕ) (l : Line) : Type 0 where
@@ -99,37 +131,221 @@ pub record Has (t : List ℕ) (l : Line) : Type 0 where
   pub text : take (l .length) (l .bytes) ≡ t
   pub rest : drop (l .length) (l .bytes) ≡ replicate (160 - l .length) 0
 
+-- What the lines say, field by field; what the texts, numbers and names in them are is said by `Texts` and `Names`.
 pub record Whole : Type 0 where
-  pub step-line : (step get : ℕ) (e : Event) (l : Line) → StepLine step get e l → Has (stepText step get e) l
-  pub end-line : (e : End) (steps get ref : ℕ) (l : Line) → EndLine e steps get ref l → Has (endText e steps get ref) l
-  pub refused-line : (n : Refusal) (l : Line) → RefusedLine n l → Has (refusedText (n .number)) l
+  -- "step=1 get=0 kind=command", of a kind alone
+  pub step-line :
+      (step get : ℕ) (e : Event) (k : Kind) (l : Line)
+      → StepLine step get e l
+      → values e ≡ number k ∷ []
+      → Has (text "step=" ++ decimal step ++ text " get=" ++ decimal get ++ text " kind=" ++ text (kindName k) ++ text "\n") l
+  -- "step=2 get=4 kind=ref subc=0 mthd=80 param=7", of a kind with subchannel, method and parameter
+  pub method-line :
+      (step get : ℕ) (e : Event) (k : Kind) (b m p : ℕ) (l : Line)
+      → StepLine step get e l
+      → values e ≡ number k ∷ b ∷ m ∷ p ∷ []
+      → Has
+      (text "step="
+      ++ decimal step
+      ++ text " get="
+      ++ decimal get
+      ++ text " kind="
+      ++ text (kindName k)
+      ++ text " subc="
+      ++ decimal b
+      ++ text " mthd="
+      ++ decimal m
+      ++ text " param="
+      ++ decimal p
+      ++ text "\n")
+      l
+  -- "end=idle steps=2 get=8 ref=7"; 2 is idle, 3 budget, and 1 error: "after error stands cause= with the name"
+  pub idle-line :
+      (e : End) (steps get ref : ℕ) (l : Line)
+      → EndLine e steps get ref l
+      → endNumber e ≡ 2
+      → Has (text "end=idle steps=" ++ decimal steps ++ text " get=" ++ decimal get ++ text " ref=" ++ decimal ref ++ text "\n") l
+  pub budget-line :
+      (e : End) (steps get ref : ℕ) (l : Line)
+      → EndLine e steps get ref l
+      → endNumber e ≡ 3
+      → Has (text "end=budget steps=" ++ decimal steps ++ text " get=" ++ decimal get ++ text " ref=" ++ decimal ref ++ text "\n") l
+  pub error-line :
+      (e : End) (c : Cause) (steps get ref : ℕ) (l : Line)
+      → EndLine e steps get ref l
+      → endNumber e ≡ 1
+      → endValues e ≡ causeNumber c ∷ causeValues c
+      → Has
+      (text "end=error cause="
+      ++ text (causeName c)
+      ++ text " steps="
+      ++ decimal steps
+      ++ text " get="
+      ++ decimal get
+      ++ text " ref="
+      ++ decimal ref
+      ++ text "\n")
+      l
+  -- "refused=SIZE"
+  pub refused-line : (n : Refusal) (l : Line) → RefusedLine n l → Has (text "refused=" ++ text (refusalName (n .number)) ++ text "\n") l
 
--- Where there is room for them, all the words that the bytes are stand in front.
-abbrev pub Loaded : Type 0
-Loaded =
-    (bytes words : List ℕ) (n : ℕ) (exit : List ℕ)
-    → Loads bytes words n exit
-    → length bytes / 4 ≤ length words
-    → (take n exit ≡ wordsOf bytes) × (drop n exit ≡ drop n words)
+-- A number in decimal: digits, the most significant first, whose value it is, at least one and no 0 before others. '0' is byte 48.
+abbrev pub valueOf : List ℕ → ℕ
+valueOf ds = foldl (λ v d. 10 * v + (d - 48)) 0 ds
+
+pub record Decimal (n : ℕ) (ds : List ℕ) : Type 0 where
+  pub value : valueOf ds ≡ n
+  pub digits : (i : ℕ) → i < length ds → (48 ≤ getD ds i 0) × (getD ds i 0 ≤ 57)
+  pub some : 1 ≤ length ds
+  pub no-zero : 1 < length ds → getD ds 0 0 ≡ 48 → ⊥
+
+-- A text is the codes of its characters; "numbers are decimal", and have at most 64 bits.
+pub record Texts : Type 0 where
+  pub nothing : text "" ≡ []
+  pub character : (c : Char) (s : String) → text (c and s) ≡ code c ∷ text s
+  pub number : (n : ℕ) → n < 2 ^ 64 → Decimal n (decimal n)
+
+-- The names, each in the paper's list at the number of what it names; at 0 and past the list there is none.
+pub record Names : Type 0 where
+  -- "`kind` is command, count, bind, ref, event, dma, offset, acquire, release, wait, forward or error, in the library also entry,
+  -- discard, idle and stopped"
+  pub kinds :
+      (k : Kind)
+      → kindName k
+      ≡ getD
+      ("" ∷ "command" ∷ "count" ∷ "bind" ∷ "ref" ∷ "event" ∷ "dma" ∷ "offset" ∷ "acquire" ∷ "release" ∷ "wait" ∷ "forward" ∷ "error" ∷ "entry" ∷ "discard" ∷ "idle" ∷ "stopped" ∷ [])
+      (number k)
+      ""
+  -- "Pusher errors: 1 CALL, 2 NON_CACHE, 3 RETURN, 4 RESERVED_CMD, 5 IB, 6 PROTECTION"
+  pub pusher :
+      (c : Cause) (n : ℕ)
+      → causeNumber c ≡ 1
+      → causeValues c ≡ n ∷ []
+      → causeName c ≡ getD ("" ∷ "CALL" ∷ "NON_CACHE" ∷ "RETURN" ∷ "RESERVED_CMD" ∷ "IB" ∷ "PROTECTION" ∷ []) n ""
+  -- "CACHE_ERROR NO_HASH", "EMPTY_SUBCHANNEL", "SEMAPHORE 1" to 4; "as NON_CACHE or SEMAPHORE_2"
+  pub puller :
+      (c : Cause) (n : ℕ)
+      → causeNumber c ≡ 2
+      → causeValues c ≡ n ∷ []
+      → causeName c ≡ getD ("" ∷ "NO_HASH" ∷ "EMPTY_SUBCHANNEL" ∷ "SEMAPHORE_1" ∷ "SEMAPHORE_2" ∷ "SEMAPHORE_3" ∷ "SEMAPHORE_4" ∷ []) n ""
+  -- the table of refusal numbers
+  pub refusals :
+      map refusalName (1 ∷ 2 ∷ 3 ∷ 4 ∷ 5 ∷ 6 ∷ 7 ∷ 8 ∷ 9 ∷ 10 ∷ 11 ∷ 12 ∷ 13 ∷ [])
+      ≡ "LEVEL" ∷ "MODE" ∷ "ORDER" ∷ "SLI" ∷ "TABLE" ∷ "DUPLICATE" ∷ "PUT" ∷ "SIZE" ∷ "LENGTH" ∷ "FIELD" ∷ "ROOM" ∷ "FORM" ∷ "STATE" ∷ []
+  pub none-else : (n : ℕ) → (n ≡ 0) ⊎ (13 < n) → refusalName n ≡ ""
+
+-- The next line of a run, and what it leaves.
+
+-- of the run's last line: it is over, and nothing else changes
+pub record Closes (t : Trace) (sems : List ℕ) (told : Told) (exit : List ℕ) : Type 0 where
+  pub stage : stageNumber (told .trace .stage) ≡ 3
+  pub channel : told .trace .channel ≡ t .channel
+  pub steps : told .trace .steps ≡ t .steps
+  pub memory : exit ≡ sems
+
+-- of a step's: channel and semaphore words are as the step leaves them, and it is counted
+pub record Counts (t : Trace) (r : Stepped) (after : List ℕ) (told : Told) (exit : List ℕ) : Type 0 where
+  pub stage : stageNumber (told .trace .stage) ≡ 2
+  pub channel : told .trace .channel ≡ r .channel
+  pub steps : told .trace .steps ≡ t .steps + 1
+  pub memory : exit ≡ after
+
+pub record NextLine : Type 0 where
+  -- a run that is refused tells the refusal, and one that is over nothing more
+  pub refused :
+      (t : Trace) (ws sems : List ℕ) (told : Told) (exit : List ℕ) (n : Refusal)
+      → Tells t ws sems told exit
+      → stageRefusal (t .stage) ≡ some (n .number)
+      → RefusedLine n (told .line) × Closes t sems told exit
+  pub over :
+      (t : Trace) (ws sems : List ℕ) (told : Told) (exit : List ℕ)
+      → Tells t ws sems told exit
+      → stageNumber (t .stage) ≡ 3
+      → Has [] (told .line) × Closes t sems told exit
+  -- one that runs and has ended tells its end, with the steps, the read address and the reference counter,
+  pub end :
+      (t : Trace) (ws sems : List ℕ) (told : Told) (exit : List ℕ) (a : Ending) (e : End)
+      → Tells t ws sems told exit
+      → stageNumber (t .stage) ≡ 2
+      → Ends (t .channel) (t .steps) a
+      → endingNumber a ≡ endNumber e
+      → endingValues a ≡ endValues e
+      → EndLine e (t .steps) (t .channel .pusher .get) (t .channel .puller .reference) (told .line) × Closes t sems told exit
+  -- and one that goes on makes a step, to which the words, the semaphore words, no IB entries and an "empty table" are lent, and tells
+  -- its event; "`get` in a step line is before the step"
+  pub step :
+      (t : Trace) (ws sems : List ℕ) (told : Told) (exit : List ℕ) (a : Ending) (r : Stepped) (after : List ℕ) (e : Event)
+      → Tells t ws sems told exit
+      → stageNumber (t .stage) ≡ 2
+      → Ends (t .channel) (t .steps) a
+      → endingNumber a ≡ 0
+      → StepsTo (t .channel) (toStep ws [] [] sems) r after
+      → answerValues (r .answer) ≡ values e
+      → StepLine (t .steps + 1) (t .channel .pusher .get) e (told .line) × Counts t r after told exit
+  -- or its refusal
+  pub refused-step :
+      (t : Trace) (ws sems : List ℕ) (told : Told) (exit : List ℕ) (a : Ending) (r : Stepped) (after : List ℕ) (n : Refusal)
+      → Tells t ws sems told exit
+      → stageNumber (t .stage) ≡ 2
+      → Ends (t .channel) (t .steps) a
+      → endingNumber a ≡ 0
+      → StepsTo (t .channel) (toStep ws [] [] sems) r after
+      → stepRefusal (r .answer) ≡ some (n .number)
+      → RefusedLine n (told .line) × Closes t sems told exit
+
+-- The words that the bytes are, read into lent ones.
+pub record Loaded : Type 0 where
+  -- where there is room, all of them stand in front, and the rest stays;
+  pub all :
+      (bytes words : List ℕ) (n : ℕ) (exit : List ℕ)
+      → Loads bytes words n exit
+      → length bytes / 4 ≤ length words
+      → (n ≡ length bytes / 4) × (take n exit ≡ wordsOf bytes) × (drop n exit ≡ drop n words)
+  -- else as many as there is room for
+  pub some :
+      (bytes words : List ℕ) (n : ℕ) (exit : List ℕ)
+      → Loads bytes words n exit
+      → length words ≤ length bytes / 4
+      → (n ≡ length words) × (exit ≡ take n (wordsOf bytes))
 
 -- The lines of a run, in turn, are what the program prints.
 
 -- k lines of a run, from one of its moments to its end, have this text
 pub data Tells-in-turn (ws : List ℕ) : ℕ → Trace → List ℕ → List ℕ → Type 0 where
-  over : (t : Trace) (sems : List ℕ) → t .stage ≡ stage.Over → Tells-in-turn ws 0 t sems []
+  over : (t : Trace) (sems : List ℕ) → stageNumber (t .stage) ≡ 3 → Tells-in-turn ws 0 t sems []
   line :
       (k : ℕ) (t : Trace) (sems : List ℕ) (told : Told) (exit rest : List ℕ)
       → Tells t ws sems told exit
       → Tells-in-turn ws k (told .trace) exit rest
       → Tells-in-turn ws (suc k) t sems (take (told .line .length) (told .line .bytes) ++ rest)
 
--- from its beginning, over the words that the bytes are and 1,024 zero semaphore words, in at most 65,537 lines
-abbrev pub Printed : Type 0
-Printed =
-    (bytes : List ℕ) (t : Trace)
-    → ((i : ℕ) → getD bytes i 0 < 2 ^ 8)
-    → Begins (length bytes) t
-    → (k : ℕ) × (k ≤ 65537) × Tells-in-turn (wordsOf bytes) k t (replicate 1024 0) (printed bytes)
+-- the channel and the semaphore words that steps lead to, from a channel and 1,024 zero semaphore words, where these words, no IB
+-- entries and an empty table are lent
+pub data LeadsTo (ws : List ℕ) (c : Channel) : Channel → List ℕ → Type 0 where
+  none-made : LeadsTo ws c c (replicate 1024 0)
+  step-made :
+      (d e : Channel) (sems exit : List ℕ) (r : Stepped)
+      → LeadsTo ws c d sems
+      → StepsTo d (toStep ws [] [] sems) r exit
+      → e ≡ r .channel
+      → LeadsTo ws c e exit
+
+pub record Printed : Type 0 where
+  -- from its beginning, over the words that the bytes are and 1,024 zero semaphore words, in at most 65,537 lines
+  pub lines :
+      (bytes : List ℕ) (t : Trace)
+      → ((i : ℕ) → getD bytes i 0 < 2 ^ 8)
+      → Begins (length bytes) t
+      → (k : ℕ) × (k ≤ 65537) × Tells-in-turn (wordsOf bytes) k t (replicate 1024 0) (printed bytes)
+  -- and no step of it is refused
+  pub none-refused :
+      (bytes : List ℕ) (t : Trace) (d : Channel) (sems exit : List ℕ) (r : Stepped)
+      → ((i : ℕ) → getD bytes i 0 < 2 ^ 8)
+      → Begins (length bytes) t
+      → stageRefusal (t .stage) ≡ none
+      → LeadsTo (wordsOf bytes) (t .channel) d sems
+      → StepsTo d (toStep (wordsOf bytes) [] [] sems) r exit
+      → stepRefusal (r .answer) ≡ none
 
 -- "For 0x00040050, 0x00000007 it prints exactly"; and three more
 pub record Cases : Type 0 where

@@ -1,14 +1,17 @@
 -- `GivesBack`: the parts of the number for C. Assumes nothing.
 use Prim.Native.Nat.{ℕ, _+_, _*_, _/_, _%_, _^_, _<_}
-use mathlib.Core.Path.{_≡_, refl, _∙_}
+use mathlib.Core.Path.{_≡_, refl, sym, ap, _∙_}
+use mathlib.Core.Bool.{Bool, true, false, not}
 use native.Mathlib.Omega.{arith}
+use lib.Dec.{eqb}
+use borrow.Author.Tests.{eqb-true, eqb-false}
 use Rattle.rules.specs.Judging.{judgeOf}
 use Rattle.rules.specs.Answers.{number, verdictRefusal, values}
 use Rattle.rules.specs.declared.judging.Verdict.{Verdict}
 use Rattle.rules.specs.declared.judging.Verdict.the-variants.{Accepted, Rejected, Refused}
 use Rattle.rules.proofs.Small.{Small, judgement-small}
 use Rattle.upborliya.specs.Packed.{reasonIn, refusalIn, placeIn, packed, on}
-use Rattle.upborliya.specs.Promises.{Unpacked, GivesBack}
+use Rattle.upborliya.specs.Promises.{Unpacked, Switches, GivesBack}
 
 -- the parts of a sum of parts
 parts :
@@ -36,7 +39,7 @@ unpacks Accepted count n s l e =
         count = p .4;
         place = λ k h. let z : _≡_ {A = ℕ} 0 1 = cc in absurd (omega arith);
         no-place = λ h. p .5;
-        accepted = (λ h. refl, λ h. (p .1, p .2));
+        accepted = (λ h. (refl, refl), λ h. (p .1, p .2));
       },
     )
 unpacks (Rejected r q) count n s l e =
@@ -51,7 +54,7 @@ unpacks (Rejected r q) count n s l e =
         count = p .4;
         place = λ k h. let same : q ≡ k = cc in p .5 ∙ same;
         no-place = λ h. let z : _≡_ {A = ℕ} 0 1 = cc in absurd (omega arith);
-        accepted = (λ h. let b = p .1 in let g = h .0 in absurd (omega (arith, s .0)), λ h. let z : _≡_ {A = ℕ} 0 1 = cc in absurd (omega arith));
+        accepted = (λ h. let b = p .1 in let g = h .0 in absurd (omega (arith, s .0)), λ h. let f = h .1 in let z : _≡_ {A = ℕ} 0 1 = cc in absurd (omega arith));
       },
     )
 unpacks (Refused m) count n s l e =
@@ -66,11 +69,20 @@ unpacks (Refused m) count n s l e =
         count = p .4;
         place = λ k h. let z : _≡_ {A = ℕ} 0 1 = cc in absurd (omega arith);
         no-place = λ h. p .5;
-        accepted = (λ h. let b = p .2 in let g = h .1 in absurd (omega (arith, s .0)), λ h. let z : _≡_ {A = ℕ} 0 1 = cc in absurd (omega arith));
+        accepted = (λ h. let b = p .2 in let g = h .1 in absurd (omega (arith, s .0)), λ h. let f = h .0 in let z : _≡_ {A = ℕ} 0 1 = cc in absurd (omega arith));
       },
     )
 
+-- the setting that a number stands for
+switched : (n : ℕ) (b : Bool) → Switches n b → b ≡ on n
+switched n b s = go (eqb n 0) refl
+  where
+    go : (t : Bool) → eqb n 0 ≡ t → b ≡ not t
+    go true e = s .zero (eqb-true _ _ e)
+    go false e = s .other (eqb-false _ _ e)
+
 pub gives-back : GivesBack
-gives-back level sli bytes map list r n h j e =
-    let b = judgement-small 1048576 level (on sli) bytes map list (omega arith) h in
-    rw j (unpacks (judgeOf level (on sli) bytes map list .verdict) (judgeOf level (on sli) bytes map list .count) n (b .0) (b .1) e)
+gives-back level sli b bytes map list r n h s j e =
+    let small = judgement-small 1048576 level b bytes map list (omega arith) h in
+    let same = e ∙ ap (λ (x : Bool). packed (judgeOf level x bytes map list)) (sym (switched sli b s)) in
+    rw j (unpacks (judgeOf level b bytes map list .verdict) (judgeOf level b bytes map list .count) n (small .0) (small .1) same)

@@ -12,7 +12,7 @@ use Rattle.word.specs.Parts.{bits, hasBits, numbersIn}
 use Rattle.word.specs.Form.{Form, increasing, nonIncreasing, sliConditional, returning, long, oldJump, jump, call, everythingElse, forms, formIn, formOf}
 use Rattle.word.specs.Reading.{commandIn}
 use Rattle.word.specs.declared.reading.Reading.the-variants.{Increasing, NonIncreasing, Sli, Return, Long, OldJump, Jump, Call, Reserved}
-use Rattle.word.proofs.Forms.{In, here, there, the-form}
+use Rattle.word.proofs.Table.{In, here, there, the-form}
 
 -- a shift and a mask are the bits
 pub field : (w hi lo : ℕ) → bitAnd (w / 2 ^ lo) (2 ^ (hi + 1 - lo) - 1) ≡ bits hi lo w
@@ -88,14 +88,14 @@ module _ (w n : ℕ) where
     odd-top-is t0 t1 t2 =
         let half : (k : ℕ) → k < 2 ^ 13 → bits 31 16 w ≡ k → ⊥ = λ k h e. t0 (top-of w 16 13 ∙ omega arith) in
         let whole : bits 31 0 w ≡ 0x20000 → ⊥ = λ e. t0 (top-of w 0 29 ∙ omega arith) in
-        none (simp (low, and-false, ne-eqb _ _ t0, ne-eqb _ _ t1, ne-eqb _ _ t2, ne-eqb _ _ (half 1 (omega arith)), ne-eqb _ _ (half 3 (omega arith)), ne-eqb _ _ whole))
+        none (simp (low, ne-eqb _ _ t0, ne-eqb _ _ t1, ne-eqb _ _ t2, ne-eqb _ _ (half 1 (omega arith)), ne-eqb _ _ (half 3 (omega arith)), ne-eqb _ _ whole))
 
     pub odd-sli-is : bits 31 16 w ≡ 1 → (bits 3 0 w ≡ 0 → ⊥) → Reserved ≡ commandIn (formOf w) w n
     unfolding forms formIn hasBits choose increasing nonIncreasing sliConditional returning long oldJump jump call
     odd-sli-is half rest =
         let middle : bits 17 16 w ≡ 1 = rw (middle-of w, half) in
         let top : bits 31 29 w ≡ 0 = rw (top-of w 16 13, half) in
-        none (simp (low, half, top, middle, and-false, ne-eqb _ _ rest, ne-eqb (bits 31 0 w) 0x20000 (omega arith)))
+        none (simp (low, half, top, middle, ne-eqb _ _ rest, ne-eqb (bits 31 0 w) 0x20000 (omega arith)))
 
     pub rest-is :
         (bits 17 16 w ≡ 0 → ⊥)

@@ -6,7 +6,7 @@ use mathlib.Core.List.{List, [], _∷_, _++_}
 use mathlib.Core.Logic.{inl, inr, ⊎-elim, _↔_}
 use mathlib.Core.Option.{Option, none, some}
 use native.Mathlib.Omega.{arith}
-use Rattle.word.specs.First.{choose, Case, PlainCase, first, FirstIs}
+use Rattle.word.specs.First.{choose, Case, PlainCase, first, FirstIs, SomeHolds}
 
 -- to show something of a choice, show it of both ways, each with the test's value
 pub by-test : {A : Type 0} (P : A → Type 0) {t : Bool} {x y : A} → (t ≡ true → P x) → (t ≡ false → P y) → P (choose t x y)
@@ -99,3 +99,16 @@ first-is (c ∷ cs) (p ∷ ps) a n = go (c .holds) refl (first-is cs ps (a .2) n
       λ h. inr (λ q. false≢true (sym e ∙ a .1 .1 q), ih .0 h),
       λ f. ⊎-elim (λ h. absurd (false≢true (sym e ∙ a .1 .1 (h .0)))) (λ h. ih .1 (h .1)) f,
     )
+
+-- the first condition that holds is one that does; and where no case holds, no plain condition does
+pub first-holds : (ps : List PlainCase) (n : ℕ) → FirstIs ps n → SomeHolds ps
+first-holds [] n f = f
+first-holds (p ∷ ps) n f = ⊎-elim (λ h. inl (h .0)) (λ h. inr (first-holds ps n (h .1))) f
+
+pub none-holds : (cs : List Case) (ps : List PlainCase) → Agree cs ps → first cs ≡ none → SomeHolds ps → ⊥
+none-holds [] [] a e h = h
+none-holds [] (p ∷ ps) a e h = a
+none-holds (c ∷ cs) [] a e h = h
+none-holds (c ∷ cs) (p ∷ ps) a e h =
+    let fails = first-none c cs e in
+    ⊎-elim (λ q. false≢true (sym (fails .0) ∙ a .1 .1 q)) (none-holds cs ps (a .2) (fails .1)) h

@@ -1,148 +1,161 @@
--- Laws of the table of forms: no word has the bits of two, so a word that has a form's bits has that form. Assumes nothing.
-use Prim.Native.Nat.{ℕ, zero, suc, _+_, _-_, _/_, _%_, _^_, _≤_}
-use mathlib.Core.Path.{_≡_, refl, sym, ap, _∙_}
-use mathlib.Core.Bool.{Bool, true, false, not, _&&_, _||_, false≢true}
+-- A word reads as the rows of the plain table say. Assumes nothing.
+use Prim.Native.Nat.{ℕ, _-_, _≤_, _<_}
+use mathlib.Core.Path.{_≡_, refl, sym, ap, subst, _∙_}
+use mathlib.Core.Bool.{true}
 use mathlib.Core.List.{List, [], _∷_}
+use mathlib.Core.Logic.{_↔_}
 use mathlib.Core.Option.{Option, none, some}
 use native.Mathlib.Omega.{arith}
-use lib.Dec.{eqb, leb}
-use lib.Pow.{mod-mod-pow, shr-shr, field}
-use borrow.Author.Tests.{eq-eqb, leb-true, eqb-true}
-use Rattle.word.specs.First.{choose}
+use lib.Dec.{eqb}
+use lib.ListN.{getD}
+use Rattle.word.specs.First.{first, FirstIs, SomeHolds}
+use Rattle.word.specs.Setting.{settingCases, refusedOr}
 use Rattle.word.specs.Parts.{bits, Part, is, carries, address, spare, hasBits}
-use Rattle.word.specs.Form.{Form, increasing, nonIncreasing, sliConditional, returning, long, oldJump, jump, call, everythingElse, forms, formIn, formOf}
-use Rattle.word.proofs.First.{by-test, choose-true, choose-false, orElse}
-use Rattle.word.proofs.Tests.{both}
+use Rattle.word.specs.Form.{Form, everythingElse, forms as table, formOf, usable}
+use Rattle.word.specs.Reading.{number, form, values, commandIn, readingOf, readOf}
+use Rattle.word.specs.Promises.{Available, settingPlain}
+use Rattle.word.specs.Forms.{Row, rows, Each, Stands, ReadsAs, Forms, OneForm}
+use Rattle.word.specs.declared.setting.Setting.{Setting}
+use Rattle.word.specs.declared.reading.Reading.{Reading}
+use Rattle.word.specs.declared.reading.Reading.the-variants.{Refused}
+use Rattle.word.proofs.Alike.{Has, Same, AllSame, all-same}
+use Rattle.word.proofs.Tests.{and-plain, equal-plain}
+use Rattle.word.proofs.Table.{In, here, there, the-form}
+use Rattle.word.proofs.RoundTrip.{read-by}
+use Rattle.word.proofs.Plainly.{form-plain, first-plain, some-plain, none-plain}
+use Rattle.word.proofs.Promises.{by-reading, read-plain, read-usable}
 
--- what a part says of bit i, if anything
-unfoldable bitOf : Part → ℕ → Option ℕ
-bitOf (is h l v) i = choose (leb l i && leb i h) (some (v / 2 ^ (i - l) % 2)) none
-bitOf (carries h l) i = none
-bitOf (address h l) i = none
-bitOf (spare h l) i = none
+-- whether a word's bits are what the parts say, in plain terms
+has-plain : (ps : List Part) (w : ℕ) → hasBits ps w ≡ true ↔ Has ps w
+unfolding hasBits
+has-plain [] w = (λ e. tt, λ h. refl)
+has-plain (is hi lo v ∷ ps) w = and-plain (eqb (bits hi lo w) v) (hasBits ps w) (equal-plain (bits hi lo w) v) (has-plain ps w)
+has-plain (carries hi lo ∷ ps) w = has-plain ps w
+has-plain (address hi lo ∷ ps) w = has-plain ps w
+has-plain (spare hi lo ∷ ps) w = has-plain ps w
 
-unfoldable bitIn : List Part → ℕ → Option ℕ
-bitIn [] i = none
-bitIn (p ∷ ps) i = orElse (bitOf p i) (bitIn ps i)
+-- at a setting that has been checked
+module _ (s : Setting) (w n : ℕ) where
+  module _ (f : Form) (i : In f table) (x : Row) (same : Same s w n f x) where
+    -- a row stands exactly if its form has the word's bits and may be used
+    stands : Stands x ↔ ((hasBits (f .word) w ≡ true) × (usable s f ≡ true))
+    stands =
+        let b = has-plain (f .word) w in
+        let a : usable s f ≡ true ↔ Available s (commandIn f w n) = subst (λ (g : Form). usable s g ≡ true ↔ Available s (commandIn f w n)) (read-by w n i .same) (form-plain s (commandIn f w n)) in (
+          λ h. (b .1 (same .bits-same .1 (h .0)), a .1 (same .available-same .1 (h .1))),
+          λ h. (same .bits-same .0 (b .0 (h .0)), same .available-same .0 (a .0 (h .1))),
+        )
 
--- whether two lists of parts differ in a bit below n that both fix
-unfoldable differ : Option ℕ → Option ℕ → Bool
-differ none none = false
-differ none (some b) = false
-differ (some a) none = false
-differ (some a) (some b) = not (eqb a b)
+    -- a word with the row's bits has its form
+    form-of : x .bits → formOf w ≡ f
+    form-of b = the-form f i w (has-plain (f .word) w .1 (same .bits-same .1 b))
 
-unfoldable clash : ℕ → List Part → List Part → Bool
-clash zero ps qs = false
-clash (suc i) ps qs = differ (bitIn ps i) (bitIn qs i) || clash i ps qs
+    -- and where the row stands the reading is that form's command
+    reads : Stands x → readingOf s w n ≡ commandIn f w n
+    reads h = read-usable s w n f (form-of (h .0)) (stands .0 h .1)
 
--- a bit of a field is that bit of the word
-bit-of : (w h l i : ℕ) → l ≤ i → i ≤ h → bits h l w / 2 ^ (i - l) % 2 ≡ w / 2 ^ i % 2
-bit-of w h l i a b =
-    let width : h + 1 - l ≡ (h - i + 1) + (i - l) = omega arith in
-    let place : l + (i - l) ≡ i = omega arith in
-    ap (λ (k : ℕ). w / 2 ^ l % 2 ^ k / 2 ^ (i - l) % 2) width
-    ∙ ap (λ (x : ℕ). x % 2) (field (w / 2 ^ l) (h - i + 1) (i - l))
-    ∙ mod-mod-pow (w / 2 ^ l / 2 ^ (i - l)) (h - i) 1
-    ∙ ap (λ (x : ℕ). x % 2) (shr-shr w l (i - l))
-    ∙ ap (λ (k : ℕ). w / 2 ^ k % 2) place
+    -- a command with the row's number has its form
+    same-form : (g : Form) → In g table → number (commandIn g w n) ≡ x .number → g ≡ f
+    unfolding form
+    same-form g j e =
+        sym (read-by w n j .same)
+        ∙ ap (λ (k : ℕ). getD table (k - 1) everythingElse) (e ∙ sym (same .number-same))
+        ∙ read-by w n i .same
 
--- a word that fits has the bits that are fixed
-has-bit : (ps : List Part) (w i b : ℕ) → hasBits ps w ≡ true → bitIn ps i ≡ some b → w / 2 ^ i % 2 ≡ b
-unfolding hasBits bitIn bitOf orElse choose
-has-bit [] w i b f e = let z : _≡_ {A = ℕ} 0 1 = cc in absurd (omega arith)
-has-bit (is h l v ∷ ps) w i b f e =
-    let y = both (eqb (bits h l w) v) (hasBits ps w) f in
-    go (leb l i && leb i h) refl (y .0) (λ k. has-bit ps w i b (y .1) k) e
-  where
-    go : (t : Bool) → (leb l i && leb i h) ≡ t → eqb (bits h l w) v ≡ true → (bitIn ps i ≡ some b → w / 2 ^ i % 2 ≡ b)
-        → orElse (choose t (some (v / 2 ^ (i - l) % 2)) none) (bitIn ps i) ≡ some b → w / 2 ^ i % 2 ≡ b
-    go true t y rest k =
-        let x = both (leb l i) (leb i h) t in
-        let z : v / 2 ^ (i - l) % 2 ≡ b = cc in
-        sym (bit-of w h l i (leb-true _ _ (x .0)) (leb-true _ _ (x .1))) ∙ ap (λ (n : ℕ). n / 2 ^ (i - l) % 2) (eqb-true _ _ y) ∙ z
-    go false t y rest k = rest k
-has-bit (carries h l ∷ ps) w i b f e = has-bit ps w i b f e
-has-bit (address h l ∷ ps) w i b f e = has-bit ps w i b f e
-has-bit (spare h l ∷ ps) w i b f e = has-bit ps w i b f e
+    below-nine : x .number < 9
+    below-nine = subst (λ (k : ℕ). k < 9) (same .number-same) (read-by w n i .command)
 
--- parts that both fit a word do not differ
-no-clash : (n : ℕ) (ps qs : List Part) (w : ℕ) → hasBits ps w ≡ true → hasBits qs w ≡ true → clash n ps qs ≡ false
-unfolding clash differ
-no-clash zero ps qs w f g = refl
-no-clash (suc i) ps qs w f g = rw (go (bitIn ps i) (bitIn qs i) refl refl) (no-clash i ps qs w f g)
-  where
-    go : (x y : Option ℕ) → bitIn ps i ≡ x → bitIn qs i ≡ y → differ x y ≡ false
-    go none none d e = refl
-    go none (some b) d e = refl
-    go (some a) none d e = refl
-    go (some a) (some b) d e = rw (eq-eqb a b (sym (has-bit ps w i a f d) ∙ has-bit qs w i b g e))
+    only : number (readingOf s w n) ≡ x .number → Stands x
+    unfolding number
+    only =
+        by-reading (λ r. number r ≡ x .number → Stands x) s w n
+        (λ g j e u k. stands .1 (subst (λ (h : Form). (hasBits (h .word) w ≡ true) × (usable s h ≡ true)) (same-form g j k) (e, u)))
+        (λ k. absurd (omega (arith, below-nine)))
 
--- A form of a table.
-pub data In (f : Form) : List Form → Type 0 where
-  here : {fs : List Form} → In f (f ∷ fs)
-  there : {g : Form} {fs : List Form} → In f fs → In f (g ∷ fs)
+    reads-as : ReadsAs (readingOf s w n) x
+    reads-as =
+        record {
+          exactly = (only, λ h. ap number (reads h) ∙ same .number-same);
+          holds = λ e. ap values (reads (only e)) ∙ same .numbers-same;
+        }
 
--- whether a form differs from each of the others, and each from each
-unfoldable against : Form → List Form → Bool
-against f [] = true
-against f (g ∷ gs) = clash 32 (f .word) (g .word) && against f gs
+    not-reserved : number (readingOf s w n) ≡ 9 → Stands x → ⊥
+    not-reserved e h = omega (arith, below-nine, sym e ∙ reads-as .exactly .1 h)
 
-unfoldable exclusive : List Form → Bool
-exclusive [] = true
-exclusive (f ∷ fs) = against f fs && exclusive fs
+  -- to show something of each row, show it of each that says what a form of the table says
+  each-in : (P : Row → Type 0) (fs : List Form) (xs : List Row) → AllSame s w n fs xs → ((f : Form) → In f fs → (x : Row) → Same s w n f x → P x) → Each P xs
+  each-in P [] [] a k = tt
+  each-in P [] (x ∷ xs) a k = absurd a
+  each-in P (f ∷ fs) [] a k = absurd a
+  each-in P (f ∷ fs) (x ∷ xs) a k = (k f here x (a .0), each-in P fs xs (a .1) (λ g i. k g (there i)))
 
-clashes : (f g : Form) {gs : List Form} → In g gs → against f gs ≡ true → clash 32 (f .word) (g .word) ≡ true
-unfolding against
-clashes f g (here {fs = gs}) a = both (clash 32 (f .word) (g .word)) (against f gs) a .0
-clashes f g (there {g = k} {fs = gs} i) a = clashes f g i (both (clash 32 (f .word) (k .word)) (against f gs) a .1)
+  by-row : (P : Row → Type 0) → ((f : Form) → In f table → (x : Row) → Same s w n f x → P x) → Each P (rows s w n)
+  by-row P k = each-in P table (rows s w n) (all-same s w n) k
 
-form-in : {fs : List Form} → exclusive fs ≡ true → (g : Form) → In g fs → (w : ℕ) → hasBits (g .word) w ≡ true → formIn fs w ≡ g
-unfolding formIn exclusive
-form-in x g (here {fs}) w e = choose-true e g (formIn fs w)
-form-in x g (there {g = f} {fs} i) w e = go (hasBits (f .word) w) refl (λ y. form-in y g i w e)
-  where
-    go : (b : Bool) → hasBits (f .word) w ≡ b → (exclusive fs ≡ true → formIn fs w ≡ g) → choose b f (formIn fs w) ≡ g
-    go true t rest =
-        let y = both (against f fs) (exclusive fs) x in
-        absurd (false≢true (sym (no-clash 32 (f .word) (g .word) w t e) ∙ clashes f g i (y .0)))
-    go false t rest = choose-false refl f (formIn fs w) ∙ rest (both (against f fs) (exclusive fs) x .1)
+  -- the row that says what a form says
+  row-of : {C : Type 0} (P : Row → Type 0) (f : Form) {fs : List Form} (xs : List Row) → In f fs → AllSame s w n fs xs → Each P xs → ((x : Row) → Same s w n f x → P x → C) → C
+  row-of P f [] here a k c = absurd a
+  row-of P f (x ∷ xs) here a k c = c x (a .0) (k .0)
+  row-of P f [] (there i) a k c = absurd a
+  row-of P f (x ∷ xs) (there i) a k c = row-of P f xs i (a .1) (k .1) c
 
--- a word that fits a form of the table has that form
-pub the-form : (f : Form) → In f forms → (w : ℕ) → hasBits (f .word) w ≡ true → formOf w ≡ f
-unfolding forms exclusive against clash differ bitIn bitOf orElse choose increasing nonIncreasing sliConditional returning long oldJump jump call
-the-form f i w e = form-in {fs = forms} refl f i w e
+  -- "Everything else is reserved"
+  else-reserved : Each (λ x. Stands x → ⊥) (rows s w n) → number (readingOf s w n) ≡ 9
+  unfolding number
+  else-reserved k =
+      by-reading (λ r. number r ≡ 9) s w n
+      (λ f i e u. absurd (row-of (λ x. Stands x → ⊥) f (rows s w n) i (all-same s w n) k (λ x same none. none (stands f i x same .1 (e, u)))))
+      refl
 
--- to show something of a form of the table, show it of each of the eight
-abbrev All : (Form → Type 0) → List Form → Type 0
-All P [] = Unit {0}
-All P (f ∷ fs) = P f × All P fs
+  no-values : number (readingOf s w n) ≡ 9 → values (readingOf s w n) ≡ []
+  unfolding number values
+  no-values =
+      by-reading (λ r. number r ≡ 9 → values r ≡ []) s w n
+      (λ f i e u k. absurd (omega (arith, read-by w n i .command)))
+      (λ k. refl)
 
-each : (P : Form → Type 0) {fs : List Form} → All P fs → {f : Form} → In f fs → P f
-each P a here = a .0
-each P a (there i) = each P (a .1) i
+  -- no reading has the number of a refusal
+  at-most-nine : number (readingOf s w n) ≤ 9
+  unfolding number
+  at-most-nine = by-reading (λ r. number r ≤ 9) s w n (λ f i e u. omega (arith, read-by w n i .command)) (omega arith)
 
-pub eight :
-    (P : Form → Type 0)
-    → P increasing
-    → P nonIncreasing
-    → P sliConditional
-    → P returning
-    → P long
-    → P oldJump
-    → P jump
-    → P call
-    → {f : Form}
-    → In f forms
-    → P f
-unfolding forms
-eight P a b c d e f g h i = each P {fs = forms} (a, (b, (c, (d, (e, (f, (g, (h, tt)))))))) i
+-- at a setting that is refused
+module _ (s : Setting) (w n : ℕ) where
+  refusing : number (readOf s w n) ≡ 10 ↔ SomeHolds (settingPlain s)
+  unfolding readOf refusedOr number
+  refusing = go (first (settingCases s)) refl
+    where
+      go : (o : Option ℕ) → first (settingCases s) ≡ o → number (refusedOr Refused o (readingOf s w n)) ≡ 10 ↔ SomeHolds (settingPlain s)
+      go none e = (λ k. absurd (omega (arith, at-most-nine s w n)), λ h. absurd (none-plain s .0 e h))
+      go (some m) e = (λ k. some-plain s m e, λ h. refl)
 
--- to show something of a word's form, show it of each form that the word fits, and of everything else
-by-form-in : (P : Form → Type 0) (w : ℕ) (fs : List Form) → ((f : Form) → In f fs → hasBits (f .word) w ≡ true → P f) → P everythingElse → P (formIn fs w)
-unfolding formIn
-by-form-in P w [] k e = e
-by-form-in P w (f ∷ fs) k e = by-test P (λ t. k f here t) (λ t. by-form-in P w fs (λ g i. k g (there i)) e)
+  refusal : (m : ℕ) → FirstIs (settingPlain s) m → values (readOf s w n) ≡ m ∷ []
+  unfolding readOf refusedOr values
+  refusal m h = rw (first-plain s m .1 h)
 
-pub by-form : (P : Form → Type 0) (w : ℕ) → ((f : Form) → In f forms → hasBits (f .word) w ≡ true → P f) → P everythingElse → P (formOf w)
-by-form P w k e = by-form-in P w forms k e
+  -- and at one that is not
+  accepted : (r : Reading) → r ≡ readOf s w n → (SomeHolds (settingPlain s) → ⊥) → r ≡ readingOf s w n
+  accepted r e k = e ∙ read-plain s w n (none-plain s .1 k)
+
+pub forms : Forms
+forms =
+    record {
+      each = λ s w next r e k.
+          subst (λ (x : Reading). Each (ReadsAs x) (rows s w next)) (sym (accepted s w next r e k)) (by-row s w next (ReadsAs (readingOf s w next)) (reads-as s w next));
+      reserved = λ s w next r e k.
+          rw (accepted s w next r e k) (
+            (λ h. by-row s w next (λ x. Stands x → ⊥) (λ f i x same. not-reserved s w next f i x same h), else-reserved s w next),
+            no-values s w next,
+          );
+      refused = λ s w next r e. rw e (refusing s w next, refusal s w next);
+    }
+
+-- two rows that have the word's bits are rows of one form
+pub one-form : OneForm
+one-form s w n =
+    by-row s w n (λ x. x .bits → Each (λ y. y .bits → x .number ≡ y .number) (rows s w n))
+    (λ f i x same b.
+    by-row s w n (λ y. y .bits → x .number ≡ y .number)
+    (λ g j y alike c.
+    let one : f ≡ g = sym (form-of s w n f i x same b) ∙ form-of s w n g j y alike c in
+    sym (same .number-same) ∙ ap (λ (h : Form). number (commandIn h w n)) one ∙ alike .number-same))

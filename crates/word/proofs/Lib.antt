@@ -4,8 +4,10 @@ pub mod Tests
 pub mod Bits
 pub mod Bytes
 pub mod Settings
+pub mod Told
+pub mod Alike
 pub mod Parts
-pub mod Forms
+pub mod Table
 pub mod Usable
 pub mod Decode
 pub mod RoundTrip
@@ -13,3 +15,4 @@ pub mod Methods
 pub mod Plainly
 pub mod Writer
 pub mod Promises
+pub mod Forms

@@ -9,6 +9,49 @@ use borrow.Author.Tests.{le-leb, lt-leb, ltb-true, ltb-false}
 use Rattle.word.specs.Special.{presentOf, listed, specials}
 use Rattle.word.proofs.Tests.{or-plain, and-plain, most-plain}
 
+-- the table in plain terms, by the method's number n: from 0x100 up, a row, a row of one method, and the last row
+above : (a n : ℕ) → leb (4 * a) (4 * n) ≡ true ↔ a ≤ n
+above a n =
+    let p = most-plain (4 * a) (4 * n) in
+    (λ e. let x = p .0 e in omega arith, λ x. p .1 (omega arith))
+
+row : (from to level n l : ℕ) → (leb (4 * from) (4 * n) && leb (4 * n) (4 * to) && leb level l) ≡ true ↔ ((from ≤ n) × (n ≤ to) × (level ≤ l))
+row from to level n l =
+    let p = and-plain (leb (4 * from) (4 * n) && leb (4 * n) (4 * to)) (leb level l) (and-plain (leb (4 * from) (4 * n)) (leb (4 * n) (4 * to)) (above from n) (above n to)) (most-plain level l) in
+    (λ e. let x = p .0 e in (x .0 .0, x .0 .1, x .1), λ x. p .1 ((x .0, x .1), x .2))
+
+single : (k level n l : ℕ) → (leb (4 * k) (4 * n) && leb (4 * n) (4 * k) && leb level l) ≡ true ↔ ((n ≡ k) × (level ≤ l))
+single k level n l =
+    let p = row k k level n l in
+    (λ e. let x = p .0 e in (omega arith, x .2), λ x. p .1 (omega arith, omega arith, x .1))
+
+always : (n l : ℕ) → (leb 0 (4 * n) && leb (4 * n) 0 && leb 0 l) ≡ true ↔ (n ≡ 0)
+always n l =
+    let p = single 0 0 n l in
+    (λ e. p .0 e .0, λ x. p .1 (x, omega arith))
+
+last : (a : Bool) {P : Type 0} → a ≡ true ↔ P → (a || false) ≡ true ↔ P
+last true p = p
+last false p = p
+
+pub specials-plain :
+    (n l : ℕ)
+    → presentOf l n ≡ true
+    ↔ ((0x40 ≤ n)
+    ⊎ (n ≡ 0x00)
+    ⊎ ((0x04 ≤ n) × (n ≤ 0x09) × (5 ≤ l))
+    ⊎ ((n ≡ 0x14) × (1 ≤ l))
+    ⊎ ((0x18 ≤ n) × (n ≤ 0x1b) × (2 ≤ l))
+    ⊎ ((n ≡ 0x20) × (3 ≤ l)))
+unfolding presentOf listed specials
+specials-plain n l =
+    or-plain _ _ (above 0x40 n)
+    (or-plain _ _ (always n l)
+    (or-plain _ _ (row 0x04 0x09 5 n l)
+    (or-plain _ _ (single 0x14 1 n l)
+    (or-plain _ _ (row 0x18 0x1b 2 n l)
+    (last _ (single 0x20 3 n l))))))
+
 -- a method outside a range is not in it, and one inside it is
 outside : (from to m : ℕ) → (m < from) ⊎ (to < m) → (b : Bool) → (leb from m && leb m to && b) ≡ false
 outside from to m s b = ⊎-elim (λ h. rw (lt-leb from m h)) (λ h. rw (lt-leb m to h, and-false)) s
@@ -64,46 +107,3 @@ module _ (level n : ℕ) where
     unfolding presentOf listed specials
     absent h a b d e =
         simp (lt-leb 0x100 m (omega arith), outside 0x00 0x00 m (inr (omega arith)), outside 0x10 0x24 m (beyond 0x04 0x09 a), outside 0x50 0x50 m (beyond 0x14 0x14 b), outside 0x60 0x6c m (beyond 0x18 0x1b d), outside 0x80 0x80 m (beyond 0x20 0x20 e))
-
--- the table in plain terms, by the method's number n: from 0x100 up, a row, a row of one method, and the last row
-above : (a n : ℕ) → leb (4 * a) (4 * n) ≡ true ↔ a ≤ n
-above a n =
-    let p = most-plain (4 * a) (4 * n) in
-    (λ e. let x = p .0 e in omega arith, λ x. p .1 (omega arith))
-
-row : (from to level n l : ℕ) → (leb (4 * from) (4 * n) && leb (4 * n) (4 * to) && leb level l) ≡ true ↔ ((from ≤ n) × (n ≤ to) × (level ≤ l))
-row from to level n l =
-    let p = and-plain (leb (4 * from) (4 * n) && leb (4 * n) (4 * to)) (leb level l) (and-plain (leb (4 * from) (4 * n)) (leb (4 * n) (4 * to)) (above from n) (above n to)) (most-plain level l) in
-    (λ e. let x = p .0 e in (x .0 .0, x .0 .1, x .1), λ x. p .1 ((x .0, x .1), x .2))
-
-single : (k level n l : ℕ) → (leb (4 * k) (4 * n) && leb (4 * n) (4 * k) && leb level l) ≡ true ↔ ((n ≡ k) × (level ≤ l))
-single k level n l =
-    let p = row k k level n l in
-    (λ e. let x = p .0 e in (omega arith, x .2), λ x. p .1 (omega arith, omega arith, x .1))
-
-always : (n l : ℕ) → (leb 0 (4 * n) && leb (4 * n) 0 && leb 0 l) ≡ true ↔ (n ≡ 0)
-always n l =
-    let p = single 0 0 n l in
-    (λ e. p .0 e .0, λ x. p .1 (x, omega arith))
-
-last : (a : Bool) {P : Type 0} → a ≡ true ↔ P → (a || false) ≡ true ↔ P
-last true p = p
-last false p = p
-
-pub specials-plain :
-    (n l : ℕ)
-    → presentOf l n ≡ true
-    ↔ ((0x40 ≤ n)
-    ⊎ (n ≡ 0x00)
-    ⊎ ((0x04 ≤ n) × (n ≤ 0x09) × (5 ≤ l))
-    ⊎ ((n ≡ 0x14) × (1 ≤ l))
-    ⊎ ((0x18 ≤ n) × (n ≤ 0x1b) × (2 ≤ l))
-    ⊎ ((n ≡ 0x20) × (3 ≤ l)))
-unfolding presentOf listed specials
-specials-plain n l =
-    or-plain _ _ (above 0x40 n)
-    (or-plain _ _ (always n l)
-    (or-plain _ _ (row 0x04 0x09 5 n l)
-    (or-plain _ _ (single 0x14 1 n l)
-    (or-plain _ _ (row 0x18 0x1b 2 n l)
-    (last _ (single 0x20 3 n l))))))

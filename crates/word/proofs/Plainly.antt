@@ -4,11 +4,12 @@ use mathlib.Core.Path.{_≡_, refl}
 use mathlib.Core.Bool.{Bool, true, false, not, _&&_, _||_, false≢true}
 use mathlib.Core.List.{List, [], _∷_, _++_}
 use mathlib.Core.Logic.{_↔_}
+use mathlib.Core.Option.{Option, none, some}
 use native.Mathlib.Omega.{arith}
 use lib.Dec.{eqb, leb, ltb}
 use lib.ListN.{length}
 use borrow.Author.Tests.{lt-ltb, le-leb, eq-eqb, ltb-true, leb-true, eqb-true}
-use Rattle.word.specs.First.{choose, Case, PlainCase}
+use Rattle.word.specs.First.{choose, Case, first, PlainCase, FirstIs, SomeHolds}
 use Rattle.word.specs.Setting.{settingCases, sizeCases}
 use Rattle.word.specs.Parts.{Part, is, carries, address, spare, numbersFit}
 use Rattle.word.specs.Form.{Where, either, only, nowhere, inMode, Form, usable, increasing, nonIncreasing, sliConditional, returning, long, oldJump, jump, call, everythingElse, forms}
@@ -19,7 +20,7 @@ use Rattle.word.specs.declared.setting.Setting.{Setting}
 use Rattle.word.specs.declared.reading.Reading.{Reading}
 use Rattle.word.specs.declared.reading.Reading.the-variants.{Increasing, NonIncreasing, Sli, Return, Long, OldJump, Jump, Call, Reserved, Refused}
 use Rattle.word.proofs.Usable.{usable-is}
-use Rattle.word.proofs.First.{Agree}
+use Rattle.word.proofs.First.{Agree, first-is, first-holds, none-holds}
 use Rattle.word.proofs.Tests.{both, not-plain, or-plain, and-plain, less-plain, equal-plain}
 
 -- numbers that fit parts, in plain terms
@@ -149,6 +150,21 @@ setting-agree s more plain rest =
         (refl, and-plain (s .sli) (ltb l 3) (λ e. e, λ e. e) (less-plain l 3), rest),
       ),
     )
+
+-- the first of a setting's cases that holds, in plain terms
+module _ (s : Setting) where
+  pub first-plain : (m : ℕ) → first (settingCases s) ≡ some m ↔ FirstIs (settingPlain s) m
+  first-plain m = first-is (settingCases s) (settingPlain s) (setting-agree s [] [] tt) m
+
+  pub some-plain : (m : ℕ) → first (settingCases s) ≡ some m → SomeHolds (settingPlain s)
+  some-plain m e = first-holds (settingPlain s) m (first-plain m .0 e)
+
+  pub none-plain : first (settingCases s) ≡ none ↔ (SomeHolds (settingPlain s) → ⊥)
+  none-plain = (none-holds (settingCases s) (settingPlain s) (setting-agree s [] [] tt), λ k. go (first (settingCases s)) refl k)
+    where
+      go : (o : Option ℕ) → first (settingCases s) ≡ o → (SomeHolds (settingPlain s) → ⊥) → o ≡ none
+      go none e k = refl
+      go (some m) e k = absurd (k (some-plain m e))
 
 pub size-agree : (ws : List ℕ) → Agree (sizeCases (length ws)) (sizePlain ws)
 size-agree ws = (refl, less-plain 1048576 (length ws), tt)

@@ -1,5 +1,5 @@
 -- The promises about words, each under the name of its statement. Assumes nothing.
-use Prim.Native.Nat.{ℕ, zero, suc, _+_, _^_, _≤_, _<_}
+use Prim.Native.Nat.{ℕ, suc, _+_, _^_, _≤_, _<_}
 use mathlib.Core.Path.{_≡_, refl, sym, ap, subst, _∙_}
 use mathlib.Core.Bool.{Bool, true, false}
 use mathlib.Core.List.{List, [], _∷_, _++_}
@@ -20,7 +20,7 @@ use Rattle.word.specs.Writing.{nextWord, ownWords, writeCases, writeOf, 
 use Rattle.word.specs.Answers.{checkRefusal, readingRefusal, placeRefusal, writtenRefusal, placeValues, writtenValues}
 use Rattle.word.specs.Contracts.{Writes}
 use Rattle.word.specs.Numbers.{Numbers}
-use Rattle.word.specs.Promises.{settingPlain, sizePlain, writePlain, Within, Available, size, sameWords, Refused, One, AtPlace, ReadBack, WriteBack, Widths, Specials, OneForm, LittleEndian}
+use Rattle.word.specs.Promises.{settingPlain, sizePlain, writePlain, Within, Available, size, sameWords, Refused, One, AtPlace, ReadBack, WriteBack, Widths, Specials, LittleEndian}
 use Rattle.word.specs.declared.setting.Setting.{Setting}
 use Rattle.word.specs.declared.setting.Check.the-variants as check
 use Rattle.word.specs.declared.reading.Reading.{Reading}
@@ -30,14 +30,14 @@ use Rattle.word.specs.declared.writing.Written.{Written}
 use Rattle.word.specs.declared.writing.Written.the-variants as written
 use Rattle.word.proofs.First.{one-outcome, by-test, choose-true, choose-false, first-none, append-none}
 use Rattle.word.proofs.Settings.{accepted, told-first, told-plain, none-fine}
-use Rattle.word.proofs.Forms.{In, here, there, by-form, the-form}
+use Rattle.word.proofs.Table.{In, by-form}
 use Rattle.word.proofs.RoundTrip.{read-by, left, next-is, form-back, command-back, numbers-fit, words-back}
 use Rattle.word.proofs.Plainly.{field-plain, form-plain, size-is, setting-agree, size-agree, write-agree}
 use Rattle.word.proofs.Writer.{Past, by-words}
 use Rattle.word.proofs.Methods.{specials-plain}
-use Rattle.word.proofs.Bytes.{word-is, word-past}
+use Rattle.word.proofs.Bytes.{words-length, word-is, word-past}
 
--- a reading that is not refused: a command, or reserved
+-- a command is no refusal
 not-refused : (r : Reading) → number r < 9 → readingRefusal r ≡ none
 unfolding number readingRefusal
 not-refused (Increasing c s m) h = refl
@@ -51,17 +51,17 @@ not-refused (Call t) h = refl
 not-refused Reserved h = refl
 not-refused (Refusing r) h = absurd (omega arith)
 
--- to show something of a reading, show it of each command that a form of the table reads, and of 'reserved'
-by-reading : (P : Reading → Type 0) (s : Setting) (w n : ℕ)
-    → ((f : Form) → In f forms → hasBits (f .word) w ≡ true → P (commandIn f w n))
+-- to show something of a reading, show it of each command that a form of the table reads where it may be used, and of 'reserved'
+pub by-reading : (P : Reading → Type 0) (s : Setting) (w n : ℕ)
+    → ((f : Form) → In f forms → hasBits (f .word) w ≡ true → usable s f ≡ true → P (commandIn f w n))
     → P Reserved
     → P (readingOf s w n)
 unfolding readingOf commandIn everythingElse
-by-reading P s w n k reserved = by-test P (λ t. by-form (λ f. P (commandIn f w n)) w k reserved) (λ t. reserved)
+by-reading P s w n k reserved = by-test P (λ t. by-form (λ f. usable s f ≡ true → P (commandIn f w n)) w k (λ u. reserved) t) (λ t. reserved)
 
 plain : (s : Setting) (w n : ℕ) → readingRefusal (readingOf s w n) ≡ none
 unfolding readingRefusal
-plain s w n = by-reading (λ r. readingRefusal r ≡ none) s w n (λ f i e. not-refused (commandIn f w n) (read-by w n i .command)) refl
+plain s w n = by-reading (λ r. readingRefusal r ≡ none) s w n (λ f i e u. not-refused (commandIn f w n) (read-by w n i .command)) refl
 
 found : (s : Setting) (ws : List ℕ) (p : ℕ) → placeRefusal (choose (ltb p (length ws)) (place.Word (readingOf s (getD ws p 0) (getD ws (p + 1) 0))) place.Past) ≡ none
 unfolding placeRefusal
@@ -114,7 +114,7 @@ unfolding readOf
 widths s w next r e =
     subst Within (sym e)
     (kept (first (settingCases s)) (readingOf s w next)
-    (by-reading Within s w next (λ f i t. field-plain (commandIn f w next) .0 (numbers-fit f i w next)) tt))
+    (by-reading Within s w next (λ f i t u. field-plain (commandIn f w next) .0 (numbers-fit f i w next)) tt))
 
 -- what an accepted command has passed
 pub record Passed (s : Setting) (r : Reading) (out : List ℕ) (a : Written) : Type 0 where
@@ -170,11 +170,11 @@ word-1 [] w ns tail h = absurd (omega arith)
 word-1 (p ∷ ps) w ns tail h = refl
 
 -- the reading of a word at a setting that is not refused
-read-plain : (s : Setting) (w n : ℕ) → first (settingCases s) ≡ none → readOf s w n ≡ readingOf s w n
+pub read-plain : (s : Setting) (w n : ℕ) → first (settingCases s) ≡ none → readOf s w n ≡ readingOf s w n
 unfolding readOf
 read-plain s w n e = accepted Refusing (readingOf s w n) e
 
-read-usable : (s : Setting) (w n : ℕ) (f : Form) → formOf w ≡ f → usable s f ≡ true → readingOf s w n ≡ commandIn f w n
+pub read-usable : (s : Setting) (w n : ℕ) (f : Form) → formOf w ≡ f → usable s f ≡ true → readingOf s w n ≡ commandIn f w n
 unfolding readingOf
 read-usable s w n f e u = choose-true (ap (usable s) e ∙ u) _ _ ∙ ap (λ (g : Form). commandIn g w n) e
 
@@ -279,15 +279,5 @@ specials level m a e =
     let p = specials-plain m (level .number) in
     (λ h. p .0 (sym e ∙ h), λ x. e ∙ p .1 x)
 
--- the form at an index of the table is in it
-at-index : (fs : List Form) (i : ℕ) → i < length fs → In (getD fs i everythingElse) fs
-at-index [] i h = absurd (omega arith)
-at-index (f ∷ fs) zero h = here
-at-index (f ∷ fs) (suc i) h = there (at-index fs i (omega arith))
-
-pub one-form : OneForm
-unfolding forms
-one-form w i j hi hj e g = sym (the-form _ (at-index forms i hi) w e) ∙ the-form _ (at-index forms j hj) w g
-
 pub little-endian : LittleEndian
-little-endian = record { inside = λ bytes p a c h. c ∙ word-is bytes p h; past = λ bytes p a c h. c ∙ word-past bytes p h }
+little-endian = record { inside = λ bytes p a c h. c ∙ word-is bytes p h; past = λ bytes p a c h. c ∙ word-past bytes p h; whole = words-length }

@@ -18,7 +18,7 @@ use Rattle.word.specs.declared.reading.Reading.{Reading}
 use Rattle.word.specs.declared.reading.Reading.the-variants.{Increasing, NonIncreasing, Sli, Return, Long, OldJump, Jump, Call, Reserved, Refused}
 use Rattle.word.proofs.Tests.{both}
 use Rattle.word.proofs.Parts.{hi, tiled, fixed, whole, Held, held, again, as-many, within, fit-apart}
-use Rattle.word.proofs.Forms.{In, here, there, eight, by-form, the-form}
+use Rattle.word.proofs.Table.{In, here, there, eight, by-form, the-form}
 
 -- how many bits a list of parts takes
 abbrev top : List Part → ℕ

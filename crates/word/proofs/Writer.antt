@@ -1,12 +1,11 @@
--- The writer's answer and output, by the first test that decides them. Assumes nothing.
+-- The writer's words, and its answer by the first test that decides it. Assumes nothing.
 use Prim.Native.Nat.{ℕ, _≤_, _<_}
-use mathlib.Core.Path.{_≡_, refl, sym, ap, _∙_}
+use mathlib.Core.Path.{_≡_, refl, ap, _∙_}
 use mathlib.Core.Bool.{true, false, not}
 use mathlib.Core.List.{List, [], _∷_, _++_}
 use native.Mathlib.Omega.{arith}
 use lib.Dec.{ltb}
 use lib.ListN.{length}
-use lib.Seq.{sets}
 use types.Run.{OneOf, miss as missed}
 use denote.Enum.Declared.{tagOf}
 use borrow.Author.Tests.{lt-ltb, le-ltb}
@@ -15,8 +14,7 @@ use Rattle.word.specs.Setting.{checkOf, refusedOr, FIELD, FORM, ROOM}
 use Rattle.word.specs.Form.{increasing, nonIncreasing, sliConditional, returning, long, oldJump, jump, call, everythingElse, usable, forms}
 use Rattle.word.specs.Reading.{number, form, values}
 use Rattle.word.specs.Parts.{numbersFit, wordWith, room}
-use Rattle.word.specs.Writing.{nextWord, ownWords, writeCases, writeOf, outAfter}
-use Rattle.word.specs.Contracts.{Writes}
+use Rattle.word.specs.Writing.{nextWord, ownWords, writeCases, writeOf}
 use Rattle.word.specs.declared.setting.Refusal.{Refusal}
 use Rattle.word.specs.declared.setting.Setting.{Setting}
 use Rattle.word.specs.declared.setting.Check.the-variants as check
@@ -85,13 +83,3 @@ module _ (s : Setting) (r : Reading) (space : ℕ) where
 
     pub by-words : length ws ≤ space → writeOf s r space ≡ written.Words (length ws)
     by-words h = past ∙ miss ROOM [] written.Refused _ (le-ltb _ _ h) ∙ no-more written.Refused _
-
--- an answer with the output that goes with it
-module _ (s : Setting) (r : Reading) (out : List ℕ) where
-  pub refused : (x : Refusal) → writeOf s r (length out) ≡ written.Refused x → Writes s r out (written.Refused x) out
-  unfolding outAfter
-  refused x e = record { answer = sym e; memory = refl }
-
-  pub wrote : {k : ℕ} {ws : List ℕ} → ownWords r ≡ ws → writeOf s r (length out) ≡ written.Words k → Writes s r out (written.Words k) (sets out 0 ws)
-  unfolding outAfter
-  wrote w e = record { answer = sym e; memory = ap (sets out 0) (sym w) }

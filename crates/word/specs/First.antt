@@ -38,3 +38,8 @@ n if p = record { number = n; holds = p }
 abbrev pub FirstIs : List PlainCase → ℕ → Type 0
 FirstIs [] n = ⊥
 FirstIs (c ∷ cs) n = (c .holds × (n ≡ c .number)) ⊎ ((c .holds → ⊥) × FirstIs cs n)
+
+-- that one of them holds, whichever
+abbrev pub SomeHolds : List PlainCase → Type 0
+SomeHolds [] = ⊥
+SomeHolds (c ∷ cs) = c .holds ⊎ SomeHolds cs

@@ -11,3 +11,4 @@ pub mod Answers
 pub mod Contracts
 pub mod Numbers
 pub mod Promises
+pub mod Forms

@@ -1,6 +1,6 @@
 -- The promises about words, each a statement that is proved under its own name in proofs/. They speak of the public
 -- functions through their contracts (Contracts.antt): of every answer and every output that a contract allows.
-use Prim.Native.Nat.{ℕ, _+_, _*_, _%_, _≤_, _<_}
+use Prim.Native.Nat.{ℕ, _+_, _*_, _/_, _%_, _≤_, _<_}
 use mathlib.Core.Path.{_≡_}
 use mathlib.Core.Bool.{Bool, true}
 use mathlib.Core.List.{List, [], _∷_, _++_}
@@ -9,10 +9,8 @@ use mathlib.Core.Option.{none, some}
 use lib.Dec.{eqb}
 use lib.ListN.{length, getD, drop}
 use Rattle.word.specs.First.{choose, PlainCase, _if_, FirstIs}
-use Rattle.word.specs.Setting.{LEVEL, MODE, SLI, SIZE, FIELD, ROOM, FORM}
-use Rattle.word.specs.Parts.{hasBits}
-use Rattle.word.specs.Form.{forms, everythingElse}
-use Rattle.word.specs.Reading.{number, values}
+use Rattle.word.specs.Reading.{number, values, parameterCount}
+use Rattle.word.specs.Lent.{wordsOf}
 use Rattle.word.specs.Answers.{checkRefusal, readingRefusal, placeRefusal, writtenRefusal, placeValues, writtenValues}
 use Rattle.word.specs.Contracts.{Checks, Reads, ReadsAt, Writes, Presents, LentAt}
 use Rattle.word.specs.declared.setting.Level.{Level}
@@ -23,14 +21,14 @@ use Rattle.word.specs.declared.reading.Reading.the-variants.{Increasing,
 use Rattle.word.specs.declared.reading.Place.{Place}
 use Rattle.word.specs.declared.writing.Written.{Written}
 
--- The conditions of the refusals, in plain terms.
+-- The conditions of the refusals, in plain terms, with their numbers in the paper's table.
 
--- LEVEL, MODE, SLI: what refuses a setting
+-- 1 LEVEL, 2 MODE, 4 SLI: what refuses a setting
 abbrev pub settingPlain : Setting → List PlainCase
 settingPlain s =
-    LEVEL if (5 < s .level .number)
-    ∷ MODE if ((1 < s .mode .number) ⊎ ((s .mode .number ≡ 1) × (s .level .number < 4)))
-    ∷ SLI if ((s .sli ≡ true) × (s .level .number < 3))
+    1 if (5 < s .level .number)
+    ∷ 2 if ((1 < s .mode .number) ⊎ ((s .mode .number ≡ 1) × (s .level .number < 4)))
+    ∷ 4 if ((s .sli ≡ true) × (s .level .number < 3))
     ∷ []
 
 -- every number of a reading is within its width, and a method or a target is a multiple of 4
@@ -63,13 +61,13 @@ Available s (Refusing r) = ⊥
 abbrev pub size : Reading → ℕ
 size r = choose (eqb (number r) 5) 2 1
 
--- SIZE, of lent words
+-- 8 SIZE, of lent words
 abbrev pub sizePlain : List ℕ → List PlainCase
-sizePlain ws = SIZE if (1048576 < length ws) ∷ []
+sizePlain ws = 8 if (1048576 < length ws) ∷ []
 
--- FIELD, FORM, ROOM: what refuses a command and an output
+-- 10 FIELD, 12 FORM, 11 ROOM: what refuses a command and an output
 abbrev pub writePlain : Setting → Reading → List ℕ → List PlainCase
-writePlain s r out = FIELD if (Within r → ⊥) ∷ FORM if (Available s r → ⊥) ∷ ROOM if (length out < size r) ∷ []
+writePlain s r out = 10 if (Within r → ⊥) ∷ 12 if (Available s r → ⊥) ∷ 11 if (length out < size r) ∷ []
 
 -- Promise 1. A refusal is given exactly when the table says: an answer is refusal n if and only if n's condition holds
 -- and none before it in the paper's order does.
@@ -139,6 +137,17 @@ WriteBack =
     → Writes s r out a exit
     → (writtenRefusal a ≡ none) × (exit ≡ sameWords r w next ++ drop (size r) out)
 
+-- A reading is told by its number and values: what a promise says of a reading, it says of them.
+abbrev pub Told : Type 0
+Told = (x y : Reading) → number x ≡ number y → values x ≡ values y → x ≡ y
+
+-- How many parameters follow a command's own words: its count, which a run (numbers 1 and 2) has first and a long form (5) last
+-- of its values. No other reading has any.
+pub record Parameters : Type 0 where
+  pub run : (r : Reading) (c b m : ℕ) → (number r ≡ 1) ⊎ (number r ≡ 2) → values r ≡ c ∷ b ∷ m ∷ [] → parameterCount r ≡ c
+  pub long : (r : Reading) (b m c : ℕ) → number r ≡ 5 → values r ≡ b ∷ m ∷ c ∷ [] → parameterCount r ≡ c
+  pub other : (r : Reading) → (number r ≡ 3) ⊎ (number r ≡ 4) ⊎ (6 ≤ number r) → parameterCount r ≡ 0
+
 -- What stands at a place of lent words is what `read` reads there, with the word after it, or 0 after the last; past the
 -- last word nothing stands.
 pub record AtPlace : Type 0 where
@@ -169,17 +178,8 @@ Specials =
     ⊎ ((0x18 ≤ n) × (n ≤ 0x1b) × (2 ≤ level .number))
     ⊎ ((n ≡ 0x20) × (3 ≤ level .number)))
 
--- No word has the bits of two forms, so the order of the table says nothing.
-abbrev pub OneForm : Type 0
-OneForm =
-    (w i j : ℕ)
-    → i < 8
-    → j < 8
-    → hasBits (getD forms i everythingElse .word) w ≡ true
-    → hasBits (getD forms j everythingElse .word) w ≡ true
-    → getD forms i everythingElse ≡ getD forms j everythingElse
-
--- "words little-endian": the word at a place of lent bytes has the lowest byte first, and past the last whole word stands 0.
+-- "words little-endian": the word at a place of lent bytes has the lowest byte first, and past the last whole word stands 0; there are
+-- as many words as whole ones among the bytes.
 pub record LittleEndian : Type 0 where
   pub inside :
       (bytes : List ℕ) (p a : ℕ)
@@ -187,3 +187,4 @@ pub record LittleEndian : Type 0 where
       → 4 * p + 3 < length bytes
       → a ≡ getD bytes (4 * p) 0 + getD bytes (4 * p + 1) 0 * 0x100 + getD bytes (4 * p + 2) 0 * 0x10000 + getD bytes (4 * p + 3) 0 * 0x1000000
   pub past : (bytes : List ℕ) (p a : ℕ) → LentAt bytes p a → length bytes < 4 * p + 4 → a ≡ 0
+  pub whole : (bytes : List ℕ) → length (wordsOf bytes) ≡ length bytes / 4

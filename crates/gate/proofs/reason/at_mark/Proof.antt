@@ -14,7 +14,7 @@ use Rattle.rules.specs.Map.{marked, among, unmarked}
 use Rattle.rules.specs.Next.{nexts}
 use Rattle.rules.specs.Reason.{MARKED_PARAMETER, Submission, submission, size, ownCases, nextCases}
 use Rattle.rules.specs.declared.pair.Pair.{Pair}
-use Rattle.rules.proofs.Nexts.{nexts-plain}
+use Rattle.rules.proofs.Nexts.{at-most-two}
 use Rattle.rules.proofs.Findings.{found-first, found-later, found-here, found-past, unmarked-none, at-command}
 use Rattle.gate.proofs.reason.at_mark.Statement.{statement}
 use Rattle.gate.proofs.reason.at_mark.Tie as tie
@@ -49,7 +49,7 @@ module _ (c : tie.After-read) where
 
 -- there are at most two next pairs
 few : (c : tie.After-next-pairs) → c .next-pairs .result .count ≤ 2
-few c = let a = start (c .before) .args in rw (c .next-pairs .ensures) (nexts-plain (c .before .read .result) (a .place) (a .inside) .few)
+few c = let a = start (c .before) .args in rw (c .next-pairs .ensures) (at-most-two (c .before .read .result) (a .place) (a .inside))
 
 -- a mark lies among the parameters, or not
 marks :

@@ -1,9 +1,11 @@
 use borrow.Author.Needs.{needs}
+use Rattle.trace.specs.LineByLine.{answered}
 use Rattle.trace.proofs.Telling.{on-event, on-refusal}
 use Rattle.trace.proofs.run.step.Statement.{statement}
 use Rattle.trace.proofs.run.step.Tie as tie
 
 pub step-spec : {M : Type 1} → statement M
+unfolding answered
 step-spec =
     tie.close
     (tie.spec

@@ -1,14 +1,22 @@
 use Prim.Native.Nat.{ℕ}
-use mathlib.Core.Path.{_≡_, sym, ap, _∙_}
+use mathlib.Core.Path.{_≡_, refl, sym, ap, _∙_}
 use mathlib.Core.Bool.{true}
-use mathlib.Core.List.{[], _∷_, _++_}
+use mathlib.Core.List.{List, [], _∷_, _++_}
+use lib.ListN.{length}
+use lib.Seq.{sets}
 use borrow.Author.Needs.{needs}
 use borrow.Author.Tests.{not-true, not-false}
 use Rattle.word.specs.Setting.{checkOf}
 use Rattle.word.specs.Reading.{form, values}
 use Rattle.word.specs.Parts.{numbersFit}
+use Rattle.word.specs.Writing.{ownWords, writeOf, outAfter}
+use Rattle.word.specs.Contracts.{Writes}
+use Rattle.word.specs.declared.setting.Refusal.{Refusal}
+use Rattle.word.specs.declared.setting.Setting.{Setting}
 use Rattle.word.specs.declared.setting.Check.the-variants as check
-use Rattle.word.proofs.Writer.{Past, one-word, two-words, by-setting, by-field, by-form, by-room, by-words, refused, wrote}
+use Rattle.word.specs.declared.reading.Reading.{Reading}
+use Rattle.word.specs.declared.writing.Written.the-variants as written
+use Rattle.word.proofs.Writer.{Past, one-word, two-words, by-setting, by-field, by-form, by-room, by-words}
 use Rattle.word.proofs.writing.write.Statement.{statement}
 use Rattle.word.proofs.writing.write.Tie as tie
 
@@ -26,6 +34,16 @@ past c =
       fields = fields (c .before .before);
       there = sym (c .before .available .ensures) ∙ not-false _ (c .if2 .left);
     }
+
+-- an answer with the output that goes with it
+module _ (s : Setting) (r : Reading) (out : List ℕ) where
+  refused : (x : Refusal) → writeOf s r (length out) ≡ written.Refused x → Writes s r out (written.Refused x) out
+  unfolding outAfter
+  refused x e = record { answer = sym e; memory = refl }
+
+  wrote : {k : ℕ} {ws : List ℕ} → ownWords r ≡ ws → writeOf s r (length out) ≡ written.Words k → Writes s r out (written.Words k) (sets out 0 ws)
+  unfolding outAfter
+  wrote w e = record { answer = sym e; memory = ap (sets out 0) (sym w) }
 
 pub write-spec : {M : Type 1} → statement M
 write-spec =

@@ -1,0 +1,79 @@
+-- `Texts`, `Names` and `Whole`: what the lines say, in the paper's words. Assumes nothing.
+use Prim.Native.Nat.{ℕ, _<_}
+use mathlib.Core.Path.{_≡_, refl, ap, subst}
+use mathlib.Core.List.{List, [], _∷_, _++_, append-assoc}
+use mathlib.Core.Logic.{_⊎_, ⊎-elim}
+use native.Mathlib.Omega.{arith}
+use lib.ListN.{List·getD-eq-default}
+use Rattle.event.specs.Event.{values}
+use Rattle.event.specs.declared.Method.{Method}
+use Rattle.event.specs.declared.Event.the-variants.{Plain, Of}
+use Rattle.event.proofs.Promises.{at, told}
+use Rattle.trace.specs.Text.{text}
+use Rattle.trace.specs.Names.{name, kinds, kindName, pusherErrors, pullerErrors, pusherName, pullerName, causeName, refusals, refusalName}
+use Rattle.trace.specs.Lines.{field, fields, eventText, stepText, endPart, endText, refusedText}
+use Rattle.trace.specs.Answers.{causeNumber, causeValues}
+use Rattle.trace.specs.Promises.{Has, Texts, Names, Whole}
+use Rattle.trace.specs.declared.line.Line.{Line}
+use Rattle.trace.specs.declared.end.Cause.{Cause}
+use Rattle.trace.specs.declared.end.Cause.the-variants as cause
+use Rattle.trace.specs.declared.end.End.the-variants.{Error, Idle, Budget}
+use Rattle.trace.proofs.Digits.{decimal-plain}
+use Rattle.trace.proofs.Told.{is-idle, is-budget, is-error}
+use Rattle.trace.proofs.Room.{step-has, end-has, refused-has}
+
+pub texts : Texts
+unfolding text
+texts = record { nothing = refl; character = λ c s. refl; number = decimal-plain }
+
+-- an error's name is at its number, in the list of its half
+pusher-is : (c : Cause) (n : ℕ) → causeNumber c ≡ 1 → causeValues c ≡ n ∷ [] → causeName c ≡ name pusherErrors n
+unfolding causeNumber causeValues pusherName causeName
+pusher-is (cause.Pusher e) n k v = ap (name pusherErrors) (at 0 v)
+pusher-is (cause.Puller e) n k v = absurd (omega arith)
+
+puller-is : (c : Cause) (n : ℕ) → causeNumber c ≡ 2 → causeValues c ≡ n ∷ [] → causeName c ≡ name pullerErrors n
+unfolding causeNumber causeValues pullerName causeName
+puller-is (cause.Pusher e) n k v = absurd (omega arith)
+puller-is (cause.Puller e) n k v = ap (name pullerErrors) (at 0 v)
+
+-- a number that the table doesn't have
+no-refusal : (n : ℕ) → (n ≡ 0) ⊎ (13 < n) → refusalName n ≡ ""
+unfolding refusals refusalName
+no-refusal n h = ⊎-elim (λ z. rw z) (λ past. List·getD-eq-default ("" ∷ refusals) "" past) h
+
+pub names : Names
+unfolding kinds kindName pusherErrors pullerErrors refusals refusalName
+names = record { kinds = λ k. refl; pusher = pusher-is; puller = puller-is; refusals = refl; none-else = no-refusal }
+
+-- the ends' words with the labels beside them
+idle-words : (more : List ℕ) → text "end=idle steps=" ++ more ≡ text "end=" ++ (text "idle" ++ (text " steps=" ++ more))
+unfolding text
+idle-words more = refl
+
+budget-words : (more : List ℕ) → text "end=budget steps=" ++ more ≡ text "end=" ++ (text "budget" ++ (text " steps=" ++ more))
+unfolding text
+budget-words more = refl
+
+error-words : (more : List ℕ) → text "end=error cause=" ++ more ≡ text "end=" ++ (text "error cause=" ++ more)
+unfolding text
+error-words more = refl
+
+-- a line that has a text has it however its parts are put together
+regrouped : {s t : List ℕ} {l : Line} → s ≡ t → Has s l → Has t l
+regrouped {l = l} e h = subst (λ (x : List ℕ). Has x l) e h
+
+pub whole : Whole
+unfolding values field fields eventText stepText endPart endText refusedText
+whole =
+    record {
+      step-line = λ step get e k l h v. let is = told e (Plain k) v in regrouped (simp (append-assoc {A = ℕ})) (step-has step get (Plain k) l (rw is at h));
+      method-line = λ step get e k b m p l h v.
+          let method : Method = record { subchannel = b; method = m; parameter = p } in
+          let is = told e (Of k method) v in
+          regrouped (simp (append-assoc {A = ℕ})) (step-has step get (Of k method) l (rw is at h));
+      idle-line = λ e steps get ref l h n. let is = is-idle e n in regrouped (simp (append-assoc {A = ℕ}, idle-words)) (end-has Idle steps get ref l (rw is at h));
+      budget-line = λ e steps get ref l h n. let is = is-budget e n in regrouped (simp (append-assoc {A = ℕ}, budget-words)) (end-has Budget steps get ref l (rw is at h));
+      error-line = λ e c steps get ref l h n v. let is = is-error e c n v in regrouped (simp (append-assoc {A = ℕ}, error-words)) (end-has (Error c) steps get ref l (rw is at h));
+      refused-line = λ n l h. refused-has (n .number) l h;
+    }
