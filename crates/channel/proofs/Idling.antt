@@ -1,4 +1,4 @@
--- `Idle`: a channel is idle exactly if it is at rest, and then a further step would say so. Assumes nothing.
+-- `Idle`: a channel is idle exactly if it rests, and then a further step would say so. Assumes nothing.
 use Prim.Native.Nat.{ℕ}
 use mathlib.Core.Path.{_≡_, refl, sym, ap, _∙_}
 use mathlib.Core.Bool.{Bool, true, false, not, _&&_, false≢true}
@@ -60,11 +60,11 @@ module _ (c : Channel) where
       go true m = inr (eqb-true _ _ (sym (choose-true m entered true) ∙ e))
       go false m = inl (eqb-false _ _ m)
 
-  -- 'at rest' by the step's role
-  abbrev AtRest : Type 0
-  AtRest = GoesOn c × (c .pusher .get ≡ c .pusher .put) × NoEntry
+  -- 'resting' by the step's role
+  abbrev RestingRole : Type 0
+  RestingRole = GoesOn c × (c .pusher .get ≡ c .pusher .put) × NoEntry
 
-  rests : idles c ≡ true → AtRest
+  rests : idles c ≡ true → RestingRole
   unfolding idles
   rests e =
       let stopped = isStopped (c .pusher) (c .puller) in
@@ -75,7 +75,7 @@ module _ (c : Channel) where
       let z = both (not stopped) (not active) (y .0) in
       (when-free _ _ (not-true _ (z .0)) (not-true _ (z .1)), eqb-true _ _ (y .1), no-entry (x .1))
 
-  idle-at : AtRest → idles c ≡ true
+  idle-at : RestingRole → idles c ≡ true
   unfolding idles
   idle-at h =
       let f = free _ _ (h .0) in
@@ -87,13 +87,13 @@ module _ (c : Channel) where
       )
 
   module _ (l : Loan) where
-    -- at rest the pusher's role is 'idles', and only then
-    idle-role : AtRest → pusher.role (c .setup) (c .pusher) (l .pusher) ≡ pusher.idles
+    -- of a channel that rests the pusher's role is 'idles', and only then
+    idle-role : RestingRole → pusher.role (c .setup) (c .pusher) (l .pusher) ≡ pusher.idles
     idle-role h =
         let on = not-halted (c .pusher) (c .puller) (free _ _ (h .0) .0) in
         ⊎-elim (λ n. without-ib (c .setup) (c .pusher) (l .pusher) on (h .1) n) (λ q. without-entries (c .setup) (c .pusher) (l .pusher) on (h .1) q) (h .2)
 
-    resting-role : GoesOn c → pusher.role (c .setup) (c .pusher) (l .pusher) ≡ pusher.idles → AtRest
+    resting-role : GoesOn c → pusher.role (c .setup) (c .pusher) (l .pusher) ≡ pusher.idles → RestingRole
     resting-role g e =
         let f : Facts (c .setup) (c .pusher) (l .pusher) pusher.idles = rw e at (facts (c .setup) (c .pusher) (l .pusher)) in
         (g, f .1, f .2)
@@ -103,11 +103,11 @@ module _ (c : Channel) where
   abbrev unlent : PusherLoan
   unlent = toPusher [] []
 
-  plainly : AtRest c → Resting c
-  plainly h = let m = makes c unlent (h .0) in record { running = m .running; no-acquire = m .no-acquire; equal = h .1; no-entry = h .2 }
+  of-role : RestingRole c → Resting c
+  of-role h = let m = makes c unlent (h .0) in record { running = m .running; no-acquire = m .no-acquire; equal = h .1; no-entry = h .2 }
 
-  by-role : Resting c → AtRest c
-  by-role h = (goes-on c unlent _ (record { running = h .running; no-acquire = h .no-acquire; move = refl }), h .equal, h .no-entry)
+  to-role : Resting c → RestingRole c
+  to-role h = (goes-on c unlent _ (record { running = h .running; no-acquire = h .no-acquire; move = refl }), h .equal, h .no-entry)
 
 says-so : (c : Channel) (l : Loan) (exit : List ℕ) (r : Stepped) → StepsTo c l r exit → stepRefusal (r .answer) ≡ none → idles c ≡ true ↔ (answerValues (r .answer) ≡ number kind.Idle ∷ [])
 says-so c l exit r m t = (
@@ -123,6 +123,6 @@ says-so c l exit r m t = (
 pub idle : Idle
 idle =
     record {
-      rests = λ c a h. rw h (λ i. plainly c (rests c i), λ k. idle-at c (by-role c k));
+      rests = λ c a h. rw h (λ i. of-role c (rests c i), λ k. idle-at c (to-role c k));
       step = λ c a l exit r h m t. rw h (says-so c l exit r m t);
     }

@@ -26,6 +26,7 @@ use Rattle.puller.specs.Record as puller-record
 use Rattle.puller.specs.Taking.{Result, takeOf, retryOf}
 use Rattle.puller.specs.Contracts.{Takes}
 use Rattle.puller.specs.Answers.{repeatNumber, repeatValues}
+use Rattle.puller.specs.Promises.{StoppedBy}
 use Rattle.puller.specs.declared.record.Puller.{Puller}
 use Rattle.puller.specs.declared.taking.Taken.{Taken}
 use Rattle.puller.proofs.Promises.{looks, first-repeat, pulls, retrying}
@@ -51,7 +52,7 @@ use Rattle.channel.specs.Putting.{putCases, withPut, unchanged, putOf}
 use Rattle.channel.specs.Stepping.{Outcome, unrefused, stepCases, stepOf}
 use Rattle.channel.specs.Stepping as stepping
 use Rattle.channel.specs.Contracts.{Puts, StepsTo}
-use Rattle.channel.specs.Promises.{WellFormed, openPlain, stepPlain, putPlain, Fresh, Blank, Refused, Accepted, Lends, One, Takable, Running, MakesMove, Leaves, Sentences, Raises, PusherFails, KeepsAdvance, TakeFails, PullerFails, Steps, NoOther, Later, same, put, step, Kept}
+use Rattle.channel.specs.Promises.{WellFormed, openPlain, stepPlain, putPlain, Fresh, Blank, Refused, Accepted, Lends, One, Takable, Running, MakesMove, Leaves, Sentences, Raises, PusherFails, KeepsAdvance, PullerFails, Steps, NoOther, Later, same, put, step, Kept}
 use Rattle.channel.specs.declared.record.Channel.{Channel}
 use Rattle.channel.specs.declared.opening.Opening.{Opening}
 use Rattle.channel.specs.declared.putting.Put.{Put}
@@ -267,7 +268,7 @@ module _ (c : Channel) (l : Loan) (exit : List ℕ) (r : Stepped) (h : StepsTo c
       take-fails : (values (took .taken .event) ≡ event.number kind.Error ∷ []) × (took .memory ≡ l .puller .semaphores)
       take-fails = puller-failing.failing .take level (c .puller) m (l .puller) (took .memory) (took .taken) takes (run .1) failed
 
-      take-stays : TakeFails c m (r .channel .puller)
+      take-stays : StoppedBy (c .puller) m (r .channel .puller)
       take-stays = rw (left-by .0 .channel .puller) (puller-failing.failing .stays level (c .puller) m (l .puller) (took .memory) (took .taken) takes (run .1) failed)
 
     by-take : MakesMove c (l .pusher) pushed → (d : Did) → pushed .did ≡ d → Stopped

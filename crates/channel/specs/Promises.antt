@@ -19,7 +19,6 @@ use Rattle.puller.specs.Promises as puller
 use Rattle.puller.specs.Widths.{PullerFits}
 use Rattle.puller.specs.declared.record.Puller.{Puller}
 use Rattle.puller.specs.declared.record.PullerError.{PullerError}
-use Rattle.puller.specs.declared.record.PullerError.the-variants as puller-cause
 use Rattle.puller.specs.declared.taking.Taken.{Taken}
 use Rattle.pusher.specs.Record as pusher-record
 use Rattle.pusher.specs.Loan.{PusherLoan}
@@ -306,15 +305,9 @@ pub record KeepsAdvance (c : Channel) (l : Loan) (p : Pusher) : Type 0 where
   pub move : (x : Pushed) → MakesMove c (l .pusher) x → p ≡ x .pusher
   pub retry : c .puller .acquire .active ≡ true → p ≡ c .pusher
 
--- q is the puller of c that a method has stopped: all but the error stays, or, of engine 0, "the binding is stored, then
--- EMPTY_SUBCHANNEL"
-abbrev pub TakeFails : Channel → Method → Puller → Type 0
-TakeFails c m q =
-    puller.Failed (c .puller) (q .error) q ⊎ puller.Failed (puller-record.withEngine (c .puller) (m .subchannel) 0) puller-cause.EmptySubchannel q
-
 -- q is the puller of c that its part of a step has stopped: a method that the pusher's move submits, or a retry
 pub record PullerFails (c : Channel) (l : Loan) (q : Puller) : Type 0 where
-  pub take : (x : Pushed) (m : Method) → MakesMove c (l .pusher) x → Tells (x .did) 2 (methodValues m) → TakeFails c m q
+  pub take : (x : Pushed) (m : Method) → MakesMove c (l .pusher) x → Tells (x .did) 2 (methodValues m) → puller.StoppedBy (c .puller) m q
   pub retry : c .puller .acquire .active ≡ true → puller.Failed (c .puller) (q .error) q
 
 -- the steps do what the sentences say, whole: those of the channel, of the pusher's move and of the puller;

@@ -2,14 +2,14 @@
 use Prim.Native.Nat.{ℕ}
 use mathlib.Core.Path.{_≡_, refl, ap, _∙_}
 use mathlib.Core.List.{List, [], _∷_}
-use mathlib.Core.Logic.{_⊎_, inl, inr}
+use mathlib.Core.Logic.{inl, inr}
 use Rattle.event.specs.Event.{values, number as kindNumber}
 use Rattle.event.specs.declared.Kind.the-variants as kind
 use Rattle.event.specs.declared.Method.{Method}
 use Rattle.puller.specs.Loan.{PullerLoan}
 use Rattle.puller.specs.Record.{number, withEngine}
 use Rattle.puller.specs.Taking.{failedBy, retryOf, Result}
-use Rattle.puller.specs.Promises.{Failed, Failing}
+use Rattle.puller.specs.Promises.{StoppedBy, Failing}
 use Rattle.puller.specs.declared.record.PullerError.the-variants as cause
 use Rattle.puller.specs.declared.record.Puller.{Puller}
 use Rattle.puller.specs.declared.taking.Taken.{Taken}
@@ -27,16 +27,12 @@ same-error waiting = refl
 same-error forwarded = refl
 
 module _ (p : Puller) (run : number (p .error) ≡ 0) where
-  -- nothing but the error has changed, or the binding of SOFTWARE too
-  abbrev Stays : Method → Puller → Type 0
-  Stays m q = Failed p (q .error) q ⊎ Failed (withEngine p (m .subchannel) 0) cause.EmptySubchannel q
-
-  -- it has failed only if it says so, and then it has written nothing and stays so
+  -- it has failed only if it says so, and then it has written nothing and has changed in nothing else
   quiet :
       {m : Method} {l : PullerLoan} (o : Result)
       → Way p m l o
       → (number (o .taken .puller .error) ≡ 0 → ⊥)
-      → (values (o .taken .event) ≡ kindNumber kind.Error ∷ []) × (o .memory ≡ l .semaphores) × Stays m (o .taken .puller)
+      → (values (o .taken .event) ≡ kindNumber kind.Error ∷ []) × (o .memory ≡ l .semaphores) × StoppedBy p m (o .taken .puller)
   unfolding values
   quiet o (failed e) n = (refl, refl, inl (failed-by p e))
   quiet {m} o (failedBound z) n = (refl, refl, inr (rw z (failed-by (withEngine p (m .subchannel) 0) cause.EmptySubchannel)))

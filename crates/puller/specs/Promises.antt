@@ -168,6 +168,10 @@ pub record Fails (p : Puller) (e : PullerError) (r : Taken) : Type 0 where
   pub puller : Failed p e (r .puller)
   pub event : values (r .event) ≡ kindNumber kind.Error ∷ []
 
+-- q is p that the method m has stopped: all but the error stays, or, of engine 0, "the binding is stored, then EMPTY_SUBCHANNEL"
+abbrev pub StoppedBy : Puller → Method → Puller → Type 0
+StoppedBy p m q = Failed p (q .error) q ⊎ Failed (withEngine p (m .subchannel) 0) cause.EmptySubchannel q
+
 -- The sentences, of any relation R between what a puller is given with a method and what it leaves: what changes, and nothing
 -- else does. Where there is an error, "no semaphore word changes".
 pub record Sentences (R : Level → Puller → Method → PullerLoan → Taken → List ℕ → Type 0) : Type 0 where
@@ -403,13 +407,13 @@ pub record Failing : Type 0 where
       → number (p .error) ≡ 0
       → (number (r .puller .error) ≡ 0 → ⊥)
       → (values (r .event) ≡ kindNumber kind.Error ∷ []) × (exit ≡ l .semaphores)
-  -- nothing else changes, but that "the binding is stored, then EMPTY_SUBCHANNEL"
+  -- and the puller has changed in nothing else
   pub stays :
       (level : Level) (p : Puller) (m : Method) (l : PullerLoan) (exit : List ℕ) (r : Taken)
       → Takes level p m l r exit
       → number (p .error) ≡ 0
       → (number (r .puller .error) ≡ 0 → ⊥)
-      → Failed p (r .puller .error) (r .puller) ⊎ Failed (withEngine p (m .subchannel) 0) cause.EmptySubchannel (r .puller)
+      → StoppedBy p m (r .puller)
   pub retry :
       (level : Level) (p : Puller) (sems : List ℕ) (r : Taken)
       → Retries level p sems r

@@ -1,13 +1,12 @@
 -- A move keeps the widths and alignments of the pusher. Assumes nothing.
 use Prim.Native.Nat.{ℕ, _+_, _*_, _/_, _%_, _^_, _≤_, _<_}
-use mathlib.Core.Path.{_≡_, refl, ap}
+use mathlib.Core.Path.{_≡_, refl}
 use mathlib.Core.Bool.{Bool, true, false}
-use mathlib.Core.List.{List}
 use mathlib.Core.Logic.{_↔_}
 use native.Mathlib.Nat.{mod-lt}
 use native.Mathlib.Omega.{arith}
 use lib.Dec.{ltb}
-use lib.ListN.{length, getD}
+use lib.ListN.{length}
 use lib.Pow.{pow-pos}
 use borrow.Author.Tests.{le-ltb}
 use Rattle.word.specs.First.{choose}
@@ -20,6 +19,7 @@ use Rattle.word.proofs.First.{by-test, choose-false}
 use Rattle.word.proofs.Promises.{widths}
 use Rattle.event.specs.declared.Method.{Method}
 use Rattle.event.specs.declared.Event.{Event}
+use Rattle.event.proofs.Promises.{at}
 use Rattle.pusher.specs.Loan.{PusherLoan}
 use Rattle.pusher.specs.Record.{withGet, withRun, withSubroutine, withIb}
 use Rattle.pusher.specs.Entry.{parts, entryOf}
@@ -51,8 +51,8 @@ unfolding didNumber didValues
 submit-fits o = (
   λ f. f (o .subchannel) (o .method) (o .parameter) (record { number = refl; values = refl }),
   λ h b m w t.
-      let same-b : o .subchannel ≡ b = ap (λ (ns : List ℕ). getD ns 0 0) (t .values) in
-      let same-w : o .parameter ≡ w = ap (λ (ns : List ℕ). getD ns 2 0) (t .values) in
+      let same-b : o .subchannel ≡ b = at 0 (t .values) in
+      let same-w : o .parameter ≡ w = at 2 (t .values) in
       (rw same-b at (h .0), rw same-w at (h .1)),
 )
 

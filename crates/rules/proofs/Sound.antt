@@ -6,9 +6,10 @@ use mathlib.Core.List.{List, [], _∷_}
 use mathlib.Core.Logic.{⊎-elim}
 use mathlib.Core.Option.{none}
 use native.Mathlib.Omega.{arith}
-use lib.ListN.{length, getD}
+use lib.ListN.{length}
 use Rattle.word.specs.declared.setting.Setting.{Setting}
 use Rattle.word.specs.Answers.{checkRefusal}
+use Rattle.event.proofs.Promises.{at}
 use Rattle.pusher.specs.Record.{withPut}
 use Rattle.pusher.specs.declared.record.Run as pusher-run
 use Rattle.pusher.specs.declared.record.Subroutine.{Subroutine}
@@ -110,7 +111,7 @@ module _ (level : ℕ) (sli : Bool) (bytes map list : List ℕ) (words : Bytes b
 
 -- lists of values that are one have the same second and third
 same-method : {j k b m n c o p : ℕ} → j ∷ b ∷ m ∷ n ∷ [] ≡ k ∷ c ∷ o ∷ p ∷ [] → (b ≡ c) × (m ≡ o)
-same-method e = (ap (λ (vs : List ℕ). getD vs 1 0) e, ap (λ (vs : List ℕ). getD vs 2 0) e)
+same-method e = (at 1 e, at 2 e)
 
 -- a method that a step tells is that of the parameter that it reads
 told-method :

@@ -7,13 +7,13 @@ use mathlib.Core.Logic.{inl, inr, ⊎-elim}
 use native.Mathlib.Nat.{eq-or-lt-of-le}
 use native.Mathlib.Omega.{arith}
 use lib.ListN.{length}
-use borrow.Author.Tests.{eqb-true, not-false}
-use Rattle.pusher.specs.Record.{number, halts}
+use Rattle.pusher.specs.Record.{number}
 use Rattle.pusher.specs.Loan.{PusherLoan, withWords}
 use Rattle.pusher.specs.Many.{Moved, unmoved, move}
 use Rattle.pusher.specs.Promises.{ReadsCommand, ReadsParameter}
 use Rattle.pusher.specs.declared.record.Setup.{Setup}
 use Rattle.pusher.specs.declared.record.Pusher.{Pusher}
+use Rattle.pusher.proofs.ReadsAs.{unhalted}
 use Rattle.pusher.proofs.Sentences.{runs}
 use Rattle.word.specs.Lent.{wordsOf}
 use Rattle.rules.specs.Reason.{Submission, submission, size}
@@ -36,10 +36,9 @@ module _ (x : Submission) (map : List ℕ) (ok : Clean x map) (small : size x �
         rw (e, h, on-these l w) (after x map ok small s setting style limit o (always p o i m) l .pusher)
 
     safe : (p : Pusher) → Inv x map p → SafePusher s (x .words) (x .permit) p
-    unfolding halts
     safe p i =
         record {
-          no-error = eqb-true _ _ (not-false _ (i .running));
+          no-error = unhalted (p .error) (i .running);
           permitted = λ l r m w h v. after x map ok small s setting style limit p i l .permitted m (rw (h, on-these l w) at v);
           parameter = λ l w h. run-permitted x map p i (h .left);
           closed = λ e.
