@@ -7,7 +7,7 @@
 #include "../tests/model/channel.h"
 
 /* Kind 0 stands for a refusal. */
-enum { KINDS = KIND_STOPPED + 1, SEMAPHORES = 16, MOST_STEPS = 4000000 };
+enum { KINDS = KIND_LAST + 1, SEMAPHORES = 16, MOST_STEPS = 4000000 };
 
 static uint32_t words[SIZE_LIMIT];
 

@@ -36,48 +36,46 @@ static const char help[] =
     "  2  rejected: for a reason, at a place of the words\n"
     "  3  no verdict: wrong usage, a file that cannot be read, output that cannot be written\n";
 
-/* ---- The paper's numbers in words ---- */
+/* ---- The header's numbers in words ---- */
 
 struct refusal {
     const char *name;
     const char *meaning;
 };
 
-/* All of the paper's, though the gatekeeper has only 1, 4, 8 and 9. */
+/* Those that the header names; the numbers between them have no name. */
 static const struct refusal refusals[] = {
-    [1] = {"LEVEL", "The level is above 5."},
-    [2] = {"MODE", "The mode is above 1, or IB below level 4."},
-    [3] = {"ORDER", "The mode is IB and ib_order is above 12."},
-    [4] = {"SLI", "SLI is enabled below level 3."},
-    [5] = {"TABLE", "The object table is not a multiple of 4 words, or over 4096 words."},
-    [6] = {"DUPLICATE", "One handle is in two entries of the object table."},
-    [7] = {"PUT", "Put is not a multiple of 4, or in IB mode not below 2^ib_order."},
-    [8] = {"SIZE", "There are over 1048576 words."},
-    [9] = {"LENGTH", "The words are not a multiple of 4 bytes, the map is not one byte a word, or the list "
-                     "is not 2048 bytes."},
-    [10] = {"FIELD", "A number is wider than its field, or an address or method is not a multiple of 4."},
-    [11] = {"ROOM", "The output is shorter than the words to be written."},
-    [12] = {"FORM", "The command is not available at that level, mode and SLI setting."},
-    [13] = {"STATE", "The channel is not well-formed."},
+    [UPBORLIYA_REFUSAL_LEVEL] = {"LEVEL", "The level is above 5."},
+    [UPBORLIYA_REFUSAL_SLI] = {"SLI", "SLI is enabled below level 3."},
+    [UPBORLIYA_REFUSAL_SIZE] = {"SIZE", "There are over 1048576 words."},
+    [UPBORLIYA_REFUSAL_LENGTH] = {"LENGTH", "The words are not a multiple of 4 bytes, the map is not one "
+                                            "byte a word, or the list is not 2048 bytes."},
 };
 
 /* What each reason means for the author of words and map. */
-static const struct reason {
-    const char *meaning;
-} reasons[] = {
-    [1] = {"The map byte is over 3; it has to be 0 not a start, 1 main, 2 inside a subroutine or 3 both."},
-    [2] = {"The map does not mark place 0 for main, and every run starts there."},
-    [3] = {"The map marks this word as a command, but it is reserved at this level and SLI setting."},
-    [4] = {"This call is marked as inside a subroutine, and a subroutine cannot call another."},
-    [5] = {"This return is marked for main, where there is no call to return from."},
-    [6] = {"The parameters of this command run past the last word."},
-    [7] = {"A parameter of this command goes to a method below 0x100 that the level lacks (NON_CACHE)."},
-    [8] = {"A parameter of this command goes to a method that is not permitted on its subchannel."},
-    [9] = {"The map marks a place among the parameters of this command as a command start."},
-    [10] = {"The target of this jump or call is past the end of the words."},
-    [11] = {"This command goes on at a place (its target, or what follows its parameters) not marked for its "
-            "state."},
-    [12] = {"After this command the words end inside a subroutine, without a return."},
+static const char *const reasons[] = {
+    [UPBORLIYA_REASON_MAP_BYTE] =
+        "The map byte is over 3; it has to be 0 not a start, 1 main, 2 inside a subroutine or 3 both.",
+    [UPBORLIYA_REASON_NO_START] = "The map does not mark place 0 for main, and every run starts there.",
+    [UPBORLIYA_REASON_RESERVED] =
+        "The map marks this word as a command, but it is reserved at this level and SLI setting.",
+    [UPBORLIYA_REASON_CALL_INSIDE] =
+        "This call is marked as inside a subroutine, and a subroutine cannot call another.",
+    [UPBORLIYA_REASON_RETURN_OUTSIDE] =
+        "This return is marked for main, where there is no call to return from.",
+    [UPBORLIYA_REASON_SHORT] = "The parameters of this command run past the last word.",
+    [UPBORLIYA_REASON_NON_CACHE] =
+        "A parameter of this command goes to a method below 0x100 that the level lacks (NON_CACHE).",
+    [UPBORLIYA_REASON_NOT_PERMITTED] =
+        "A parameter of this command goes to a method that is not permitted on its subchannel.",
+    [UPBORLIYA_REASON_MARKED_PARAMETER] =
+        "The map marks a place among the parameters of this command as a command start.",
+    [UPBORLIYA_REASON_TARGET_PAST] = "The target of this jump or call is past the end of the words.",
+    [UPBORLIYA_REASON_NOT_MARKED] =
+        "This command goes on at a place (its target, or what follows its parameters) not marked for its "
+        "state.",
+    [UPBORLIYA_REASON_END_INSIDE] =
+        "After this command the words end inside a subroutine, without a return.",
 };
 
 enum {
@@ -254,14 +252,28 @@ static void print_given(const struct submission *submission)
 
 /* ---- The verdict ---- */
 
+/* What is proved of accepted words, with all that it takes, and what is not. */
+static const char promised[] =
+    "  On a fresh NV04-style channel of this level and SLI setting, with these words unchanged from\n"
+    "  address 0 on, put set once, at their end, and a limit not below the last word, no step raises a\n"
+    "  pusher error, every method submitted is permitted, no word is read both as command and as\n"
+    "  parameter, and whenever the read address equals put, no command and no subroutine is open.\n"
+    "  They may still loop for ever, stop at an error of the puller, or wait for a semaphore.\n";
+
 /* Every answer that the header describes is known. Any other would have to come from a wrong archive, and is
  * no verdict. */
 static bool is_known(const struct submission *submission, upborliya_answer answer)
 {
-    if (upborliya_refusal(answer) != 0)
-        return upborliya_refusal(answer) < REFUSAL_COUNT;
-    if (upborliya_reason(answer) != 0)
-        return upborliya_reason(answer) < REASON_COUNT && upborliya_place(answer) < word_count(submission);
+    unsigned refusal = upborliya_refusal(answer);
+    unsigned reason = upborliya_reason(answer);
+
+    if ((answer >> 16 & 0xff) != 0)
+        return false;
+    if (refusal != UPBORLIYA_REFUSAL_NONE)
+        return reason == UPBORLIYA_REASON_NONE && refusal < REFUSAL_COUNT && refusals[refusal].name != NULL;
+    if (reason != UPBORLIYA_REASON_NONE)
+        return reason < REASON_COUNT && reasons[reason] != NULL &&
+               upborliya_place(answer) < word_count(submission);
     return true;
 }
 
@@ -286,7 +298,7 @@ static int print_rejected(const struct submission *submission, upborliya_answer 
     uint32_t place = upborliya_place(answer);
 
     printf("rejected: reason %u at place %" PRIu32 " (byte %" PRIu32 ")\n", reason, place, 4 * place);
-    printf("  %s\n", reasons[reason].meaning);
+    printf("  %s\n", reasons[reason]);
     printf("  word: 0x%08" PRIx32 ", map byte: %u\n", word_at(submission, place),
            submission->map.bytes[place]);
     return REJECTED;
@@ -298,10 +310,7 @@ static int print_accepted(const struct submission *submission, upborliya_answer 
     print_count(word_count(submission), "word");
     printf(", ");
     print_count(upborliya_count(answer), "method");
-    printf(" permitted\n"
-           "  On a fresh NV04-style channel of this level and SLI setting, with put at the end of the words\n"
-           "  and a limit that covers them, they raise no pusher error, submit permitted methods only, and\n"
-           "  none is read both as command and as parameter.\n");
+    printf(" permitted\n%s", promised);
     return ACCEPTED;
 }
 
@@ -309,9 +318,9 @@ static int print_verdict(const struct submission *submission, upborliya_answer a
 {
     if (!is_known(submission, answer))
         return print_unknown(answer);
-    if (upborliya_refusal(answer) != 0)
+    if (upborliya_refusal(answer) != UPBORLIYA_REFUSAL_NONE)
         return print_refused(submission, answer);
-    if (upborliya_reason(answer) != 0)
+    if (upborliya_reason(answer) != UPBORLIYA_REASON_NONE)
         return print_rejected(submission, answer);
     return print_accepted(submission, answer);
 }

@@ -4,9 +4,6 @@
 
 #include "word.h"
 
-/* The refusal numbers that only a channel can give. */
-enum { REFUSAL_ORDER = 3, REFUSAL_TABLE = 5, REFUSAL_DUPLICATE = 6, REFUSAL_PUT = 7, REFUSAL_STATE = 13 };
-
 /* "Pusher errors: 1 CALL, 2 NON_CACHE, 3 RETURN, 4 RESERVED_CMD, 5 IB, 6 PROTECTION." 0 stands for none. */
 enum {
     PUSHER_CALL = 1,
@@ -27,7 +24,7 @@ enum {
     PULLER_SEMAPHORE_4 = 6
 };
 
-/* What a step did. */
+/* What a step did. The last is KIND_LAST: a further kind stands behind it, and moves it. */
 enum {
     KIND_COMMAND = 1,
     KIND_COUNT = 2,
@@ -44,7 +41,8 @@ enum {
     KIND_ENTRY = 13,
     KIND_DISCARD = 14,
     KIND_IDLE = 15,
-    KIND_STOPPED = 16
+    KIND_STOPPED = 16,
+    KIND_LAST = KIND_STOPPED
 };
 
 /* "object table [...] over 4,096 words", four words an entry; "ib_order above 12"; eight subchannels. */

@@ -27,7 +27,7 @@ static void put_open(struct vectors *vectors, const struct opening *opening)
     add_counted(&buffer, opening->table, opening->table_count);
     add(&buffer, opened.refusal);
     add(&buffer, opened.entry);
-    add_channel(&buffer, &channel);
+    add_channel(vectors, &buffer, &channel);
     put_record(vectors, OPEN, buffer.words, buffer.count, opened.refusal);
 }
 

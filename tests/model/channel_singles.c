@@ -40,7 +40,7 @@ static uint32_t put_single(struct vectors *vectors, const struct single *single)
 
     fill_pools(&single->memory);
     buffer.count = 0;
-    add_channel(&buffer, &channel);
+    add_channel(vectors, &buffer, &channel);
     add_words(&buffer, lents, sizeof lents / sizeof lents[0]);
     add_counted(&buffer, single->memory.table, single->memory.table_count);
     add_memory(&buffer, &single->memory);

@@ -167,7 +167,7 @@ static void put_put(struct vectors *vectors, struct channel channel, uint32_t pu
     uint32_t refusal;
 
     buffer.count = 0;
-    add_channel(&buffer, &channel);
+    add_channel(vectors, &buffer, &channel);
     add(&buffer, put);
     header = buffer.count++;
     refusal = add_put(&buffer, header, &channel, put);

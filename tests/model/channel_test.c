@@ -1041,6 +1041,8 @@ static const char *const kind_names[] = {"",      "command", "count",   "bind", 
                                          "dma",   "offset",  "acquire", "release", "wait",   "forward",
                                          "error", "entry",   "discard", "idle",    "stopped"};
 
+_Static_assert(sizeof kind_names / sizeof kind_names[0] == KIND_LAST + 1, "every kind has a name");
+
 /* The line that the paper's program prints for a step. */
 static int print_step(char *out, size_t room, unsigned step, uint64_t get, struct answer answer)
 {

@@ -42,10 +42,13 @@ void add_counted(struct buffer *buffer, const uint32_t *words, uint32_t count)
     add_words(buffer, words, count);
 }
 
-void add_channel(struct buffer *buffer, const struct channel *channel)
+void add_channel(struct vectors *vectors, struct buffer *buffer, const struct channel *channel)
 {
     struct record record = record_of(channel);
 
+    for (unsigned i = 0; i < CHANNEL_WORDS; i++)
+        if (record.word[i] != 0)
+            count_one(vectors, WORD, i);
     add_words(buffer, record.word, CHANNEL_WORDS);
 }
 
@@ -145,21 +148,35 @@ static void print_layout(void)
     printf("CHANNEL_WORDS %d\n", CHANNEL_WORDS);
 }
 
-/* The one argument, if any, is --counts, or --layout. */
+/* The numbers from one to another: kinds of event, or breaches, each of which tests/host wants to see. */
+static int print_numbers(unsigned first, unsigned last)
+{
+    for (unsigned number = first; number <= last; number++)
+        printf("%u\n", number);
+    return end_of_output();
+}
+
+/* The one argument, if any, is --counts, --layout, --kinds or --breaches. */
 int main(int count, char **arguments)
 {
     /* OPEN, RUN, PUT and RUN_PUT are counted by the refusal, STEP and SINGLE by the event's kind (0 where
      * they are refused: then REFUSED and SINGLE_REFUSED by the refusal), ERROR and CAUSE by the pusher's and
-     * the puller's error, RETRY_FAULT by the latter, STATE by the breach. */
+     * the puller's error, RETRY_FAULT by the latter, STATE by the breach. WORD counts, by the place, the words
+     * other than 0 of the channels that are written whole. */
     static const char *const names[] = {"OPEN",  "RUN",         "SINGLE",         "PUT",
                                         "STEP",  "REFUSED",     "SINGLE_REFUSED", "ERROR",
-                                        "CAUSE", "RETRY_FAULT", "STATE",          "RUN_PUT"};
+                                        "CAUSE", "RETRY_FAULT", "STATE",          "RUN_PUT",
+                                        "WORD"};
     static struct vectors vectors = {.draw = {0x5eed}};
 
     if (count == 2 && strcmp(arguments[1], "--layout") == 0) {
         print_layout();
         return end_of_output();
     }
+    if (count == 2 && strcmp(arguments[1], "--kinds") == 0)
+        return print_numbers(1, KIND_LAST);
+    if (count == 2 && strcmp(arguments[1], "--breaches") == 0)
+        return print_numbers(0, breach_count() - 1);
     if (!read_arguments(&vectors, count, arguments))
         return 2;
     put_opens(&vectors);

@@ -21,7 +21,8 @@ enum {
     CAUSE = 9,
     RETRY_FAULT = 10,
     STATE = 11,
-    RUN_PUT = 12
+    RUN_PUT = 12,
+    WORD = 13
 };
 
 /* The pools that memory is lent from: how many words they have, and how many of them a record can give. */
@@ -63,7 +64,7 @@ void add_words(struct buffer *buffer, const uint32_t *words, size_t count);
 /* A count and so many words. */
 void add_counted(struct buffer *buffer, const uint32_t *words, uint32_t count);
 
-void add_channel(struct buffer *buffer, const struct channel *channel);
+void add_channel(struct vectors *vectors, struct buffer *buffer, const struct channel *channel);
 
 /* The words, entries and semaphore words that a record gives, each after its count. */
 void add_memory(struct buffer *buffer, const struct memory *memory);

@@ -5,9 +5,6 @@
 
 #include "word.h"
 
-/* The refusal number that neither words nor channels give. */
-enum { REFUSAL_LENGTH = 9 };
-
 /* "Reasons, with the place"; 0 stands for none. */
 enum {
     REASON_NONE = 0,
@@ -22,7 +19,8 @@ enum {
     REASON_MARKED = 9,
     REASON_TARGET = 10,
     REASON_UNMARKED = 11,
-    REASON_END = 12
+    REASON_END = 12,
+    REASON_COUNT
 };
 
 /* "Map byte: 0 not a start, 1 main, 2 inside a subroutine, 3 both." */

@@ -1,7 +1,7 @@
 /* Compares the archive's gatekeeper with the model's on many submissions, short and long, sound, damaged,
- * wild and refused. What is lent to the archive ends where an unreadable page begins. Accepted words are run
- * on the model's channel, and the map of exactly the reached pairs has to be accepted exactly if no place is
- * bad. The first difference is described and ends the run. */
+ * wild and refused. What is lent to the archive ends where an unreadable page begins; lengths that no memory
+ * has are lent there. Accepted words are run on the model's channel, and the map of exactly the reached pairs
+ * has to be accepted exactly if no place is bad. The first difference is described and ends the run. */
 #define _DEFAULT_SOURCE
 
 #include <inttypes.h>
@@ -17,7 +17,29 @@
 #include "gate_run.h"
 #include "upborliya.h"
 
-enum { REASONS = 13, REFUSALS = 10, STEPS = 500, MOST_LINES = 4096 };
+enum { STEPS = 500, FEWEST = 500, MOST_LINES = 4096 };
+
+/* The header's numbers are the model's, and it leaves out no reason. */
+#define SAME_NUMBER(header, model) _Static_assert((int)(header) == (int)(model), #header " is " #model)
+SAME_NUMBER(UPBORLIYA_REASON_NONE, REASON_NONE);
+SAME_NUMBER(UPBORLIYA_REASON_MAP_BYTE, REASON_MAP_BYTE);
+SAME_NUMBER(UPBORLIYA_REASON_NO_START, REASON_START);
+SAME_NUMBER(UPBORLIYA_REASON_RESERVED, REASON_RESERVED);
+SAME_NUMBER(UPBORLIYA_REASON_CALL_INSIDE, REASON_CALL);
+SAME_NUMBER(UPBORLIYA_REASON_RETURN_OUTSIDE, REASON_RETURN);
+SAME_NUMBER(UPBORLIYA_REASON_SHORT, REASON_PARAMETERS);
+SAME_NUMBER(UPBORLIYA_REASON_NON_CACHE, REASON_NON_CACHE);
+SAME_NUMBER(UPBORLIYA_REASON_NOT_PERMITTED, REASON_PERMIT);
+SAME_NUMBER(UPBORLIYA_REASON_MARKED_PARAMETER, REASON_MARKED);
+SAME_NUMBER(UPBORLIYA_REASON_TARGET_PAST, REASON_TARGET);
+SAME_NUMBER(UPBORLIYA_REASON_NOT_MARKED, REASON_UNMARKED);
+SAME_NUMBER(UPBORLIYA_REASON_END_INSIDE, REASON_END);
+SAME_NUMBER(UPBORLIYA_REASON_END_INSIDE + 1, REASON_COUNT);
+SAME_NUMBER(UPBORLIYA_REFUSAL_NONE, REFUSAL_NONE);
+SAME_NUMBER(UPBORLIYA_REFUSAL_LEVEL, REFUSAL_LEVEL);
+SAME_NUMBER(UPBORLIYA_REFUSAL_SLI, REFUSAL_SLI);
+SAME_NUMBER(UPBORLIYA_REFUSAL_SIZE, REFUSAL_SIZE);
+SAME_NUMBER(UPBORLIYA_REFUSAL_LENGTH, REFUSAL_LENGTH);
 
 /* Some submissions end so many bytes before the unreadable page, so that words lie at any address. */
 enum { MOST_GAP = 3 };
@@ -30,10 +52,11 @@ static struct judgement archive;
 /* What was counted so far. */
 static struct {
     unsigned long submissions;
-    unsigned long reasons[REASONS];
-    unsigned long refusals[REFUSALS];
+    unsigned long reasons[REASON_COUNT];
+    unsigned long refusals[REFUSAL_COUNT];
     unsigned long exact_maps;
     unsigned long runs;
+    unsigned long vast;
 } counts;
 
 /* ---- Differences ---- */
@@ -119,7 +142,17 @@ static uint8_t *make_room(size_t length)
     return room + readable;
 }
 
-/* Whether reading a byte ends the program with SIGSEGV. */
+/* The statuses of a process that reads one byte. */
+enum { READ = 0, FAULTED = 7 };
+
+static void exit_at_fault(int number)
+{
+    (void)number;
+    _exit(FAULTED);
+}
+
+/* Whether reading a byte raises SIGSEGV. It is tried in a process of its own, which takes the signal: if it
+ * died of it, some machines would report a crash that is none. */
 static bool faults(const volatile uint8_t *byte)
 {
     int status = 0;
@@ -127,11 +160,14 @@ static bool faults(const volatile uint8_t *byte)
 
     check(child >= 0, "a process is made");
     if (child == 0) {
+        signal(SIGSEGV, exit_at_fault);
         (void)*byte;
-        _exit(0);
+        _exit(READ);
     }
     check(waitpid(child, &status, 0) == child, "the process ends");
-    return WIFSIGNALED(status) && WTERMSIG(status) == SIGSEGV;
+    check(WIFEXITED(status) && (WEXITSTATUS(status) == READ || WEXITSTATUS(status) == FAULTED),
+          "the process reads a byte or faults");
+    return WEXITSTATUS(status) == FAULTED;
 }
 
 /* Reading one byte past a room faults, reading its last byte doesn't. */
@@ -331,18 +367,112 @@ static void test_sizes(void)
     }
 }
 
+/* ---- Lengths that no memory has ---- */
+
+/* The submission under way. Nothing can be read at its pointers, and one of its lengths has more than 32
+ * bits. */
+static struct submission vast;
+
+static void fail_vast(const char *sentence)
+{
+    fprintf(stderr, "gate compare: failed: %s\n", sentence);
+    fprintf(stderr, "level %" PRIu32 ", SLI %" PRIu32 "; words of %zu bytes, map of %zu, list of %zu\n",
+            vast.level, vast.sli, vast.words_length, vast.map_length, vast.permit_length);
+    exit(1);
+}
+
+static void fail_vast_at_fault(int number)
+{
+    (void)number;
+    fail_vast("a submission that is refused is not read");
+}
+
+/* "Gatekeeper: 1, 4, 8, 9." The length that has more than 32 bits is wrong, whichever it is. */
+static uint32_t vast_refusal(void)
+{
+    if (vast.level > 5)
+        return REFUSAL_LEVEL;
+    if (vast.sli != 0 && vast.level < 3)
+        return REFUSAL_SLI;
+    return vast.words_length > 4 * (size_t)SIZE_LIMIT ? REFUSAL_SIZE : REFUSAL_LENGTH;
+}
+
+/* The archive refuses by the table, and so does the model. */
+static void compare_vast(void)
+{
+    struct judgement wanted = {REASON_NONE, vast_refusal(), 0, 0};
+    upborliya_answer answer =
+        upborliya_judge(vast.level, vast.sli, vast.words, vast.words_length, vast.map, vast.map_length,
+                        vast.permit, vast.permit_length);
+
+    if (!same(unpack(answer), wanted) || (answer >> 16 & 0xff) != 0)
+        fail_vast("a length that no memory has is refused by the table");
+    if (!same(model_judge(&vast), wanted))
+        fail_vast("the model refuses such a length by the table");
+    counts.vast++;
+}
+
+/* Lengths of which 32 bits would be a good one: those of two words, their map and a permit list. */
+#define WIDE ((size_t)1 << 32)
+static const size_t words_lengths[] = {0, 8, WIDE, WIDE + 8, SIZE_MAX};
+static const size_t map_lengths[] = {0, 2, WIDE, WIDE + 2, WIDE + 8, SIZE_MAX};
+static const size_t permit_lengths[] = {0, PERMIT_BYTES, WIDE, WIDE + 8, WIDE + PERMIT_BYTES, SIZE_MAX};
+
+enum {
+    WORDS_LENGTHS = sizeof words_lengths / sizeof words_lengths[0],
+    MAP_LENGTHS = sizeof map_lengths / sizeof map_lengths[0],
+    PERMIT_LENGTHS = sizeof permit_lengths / sizeof permit_lengths[0]
+};
+
+/* Each length alone and with the others, at this level and SLI setting. */
+static void test_vast_lengths(uint32_t level, uint32_t sli)
+{
+    vast = (struct submission){level, sli, ends.words, 0, ends.map, 0, ends.permit, 0};
+    for (unsigned i = 0; i < WORDS_LENGTHS * MAP_LENGTHS * PERMIT_LENGTHS; i++) {
+        vast.words_length = words_lengths[i % WORDS_LENGTHS];
+        vast.map_length = map_lengths[i / WORDS_LENGTHS % MAP_LENGTHS];
+        vast.permit_length = permit_lengths[i / WORDS_LENGTHS / MAP_LENGTHS];
+        if (vast.words_length >= WIDE || vast.map_length >= WIDE || vast.permit_length >= WIDE)
+            compare_vast();
+    }
+}
+
+static void test_vast(void)
+{
+    void (*before)(int) = signal(SIGSEGV, fail_vast_at_fault);
+
+    for (uint32_t level = 0; level <= 6; level++)
+        for (uint32_t sli = 0; sli <= 1; sli++)
+            test_vast_lengths(level, sli);
+    signal(SIGSEGV, before);
+}
+
+/* ---- The program ---- */
+
 static void print_summary(void)
 {
     printf("gate compare: %lu submissions, %lu of them with an exact map, %lu accepted, %lu runs\n",
            counts.submissions, counts.exact_maps, counts.reasons[REASON_NONE], counts.runs);
+    printf("lengths of more than 32 bits: %lu submissions\n", counts.vast);
     printf("reasons:");
-    for (unsigned i = 1; i < REASONS; i++)
+    for (unsigned i = 1; i < REASON_COUNT; i++)
         printf(" %u=%lu", i, counts.reasons[i]);
     printf("\nrefusals:");
-    for (unsigned i = 1; i < REFUSALS; i++)
+    for (unsigned i = 1; i < REFUSAL_COUNT; i++)
         if (counts.refusals[i] != 0)
             printf(" %u=%lu", i, counts.refusals[i]);
     putchar('\n');
+}
+
+/* What was drawn gave each reason often enough for its comparison to mean something. */
+static void test_counts(void)
+{
+    for (unsigned i = 1; i < REASON_COUNT; i++)
+        if (counts.reasons[i] < FEWEST) {
+            fprintf(stderr, "gate compare: failed: reason %u was given %lu times, wanted %d\n", i,
+                    counts.reasons[i], FEWEST);
+            exit(1);
+        }
 }
 
 int main(void)
@@ -352,6 +482,7 @@ int main(void)
     make_rooms();
     signal(SIGSEGV, fail_at_fault);
     test_nulls();
+    test_vast();
     for (unsigned i = 0; i < 60000; i++)
         test_drawn(&draw, draw_below(&draw, 65));
     for (unsigned i = 0; i < 200; i++)
@@ -361,5 +492,6 @@ int main(void)
     test_uniforms(&draw);
     test_sizes();
     print_summary();
+    test_counts();
     return 0;
 }

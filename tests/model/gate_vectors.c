@@ -22,6 +22,8 @@ enum {
 
 /* The answers under which refused records are counted, apart from reasons. */
 enum { ANSWER_REFUSED = 20 };
+_Static_assert((int)REASON_COUNT <= (int)ANSWER_REFUSED, "no refusal is counted under a reason");
+_Static_assert(ANSWER_REFUSED + (int)REFUSAL_COUNT <= (int)ANSWERS, "every refusal has its answer");
 
 /* "An increasing run from 0x1ffc taken as ending there", "The word after a call left unmarked." */
 enum { MISREADING_NONE = 0, MISREADING_WRAP = 1, MISREADING_CALL = 2 };

@@ -18,6 +18,7 @@ const char *model_kind_name(uint32_t kind)
         [KIND_STOPPED] = "stopped",
     };
 
+    _Static_assert(sizeof names / sizeof names[0] == KIND_LAST + 1, "every kind has a name");
     return names[kind];
 }
 

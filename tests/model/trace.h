@@ -18,7 +18,7 @@ struct traced {
     uint32_t end;
     uint32_t pusher_error;
     uint32_t puller_error;
-    uint32_t kinds[KIND_STOPPED + 1];
+    uint32_t kinds[KIND_LAST + 1];
 };
 
 /* Writes to `out` what the program prints for these bytes. */

@@ -52,7 +52,7 @@ struct cases {
     unsigned long ends[ENDED_ERROR + 1];
     unsigned long pusher_errors[PUSHER_PROTECTION + 1];
     unsigned long puller_errors[PULLER_SEMAPHORE_4 + 1];
-    unsigned long kinds[KIND_STOPPED + 1];
+    unsigned long kinds[KIND_LAST + 1];
 };
 
 /* The file of a case; NULL where it can't be written. */
@@ -102,7 +102,7 @@ static void count_case(struct cases *cases, const struct traced *traced)
     cases->ends[traced->end]++;
     cases->pusher_errors[traced->pusher_error]++;
     cases->puller_errors[traced->puller_error]++;
-    for (unsigned kind = 0; kind <= KIND_STOPPED; kind++)
+    for (unsigned kind = 0; kind <= KIND_LAST; kind++)
         cases->kinds[kind] += traced->kinds[kind];
 }
 
@@ -147,8 +147,8 @@ static void print_counts(const struct cases *cases)
         print_count(model_cause_name(error, 0), cases->pusher_errors[error]);
     for (uint32_t error = 1; error <= PULLER_SEMAPHORE_4; error++)
         print_count(model_cause_name(0, error), cases->puller_errors[error]);
-    printf("\nKIND %lu:", sum(cases->kinds, KIND_STOPPED));
-    for (uint32_t kind = 1; kind <= KIND_STOPPED; kind++)
+    printf("\nKIND %lu:", sum(cases->kinds, KIND_LAST));
+    for (uint32_t kind = 1; kind <= KIND_LAST; kind++)
         print_count(model_kind_name(kind), cases->kinds[kind]);
     putchar('\n');
 }

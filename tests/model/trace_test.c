@@ -762,7 +762,7 @@ static void test_drawn(struct draw *draw)
     traced = prints_wanted("the second reading");
     for (unsigned i = 0; i < sizeof reached / sizeof reached[0]; i++)
         traced.kinds[reached[i]] = 0;
-    for (uint32_t kind = 0; kind <= KIND_STOPPED; kind++)
+    for (uint32_t kind = 0; kind <= KIND_LAST; kind++)
         check(traced.kinds[kind] == 0, "no other kinds");
     check(traced.pusher_error != PUSHER_IB, "no other causes");
     check(traced.puller_error <= PULLER_SEMAPHORE_2, "no other causes");

@@ -10,16 +10,23 @@
 /* "Modes: 0 NV04-style, 1 IB." */
 enum { MODE_NV04 = 0, MODE_IB = 1 };
 
-/* The refusal numbers that reading and writing a word can give; 0 stands for none. */
+/* The paper's table of refusals; 0 stands for none. */
 enum {
     REFUSAL_NONE = 0,
     REFUSAL_LEVEL = 1,
     REFUSAL_MODE = 2,
+    REFUSAL_ORDER = 3,
     REFUSAL_SLI = 4,
+    REFUSAL_TABLE = 5,
+    REFUSAL_DUPLICATE = 6,
+    REFUSAL_PUT = 7,
     REFUSAL_SIZE = 8,
+    REFUSAL_LENGTH = 9,
     REFUSAL_FIELD = 10,
     REFUSAL_ROOM = 11,
-    REFUSAL_FORM = 12
+    REFUSAL_FORM = 12,
+    REFUSAL_STATE = 13,
+    REFUSAL_COUNT
 };
 
 /* "SIZE: pushbuffer or semaphore memory over 1,048,576 words" */

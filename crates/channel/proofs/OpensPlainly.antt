@@ -20,9 +20,11 @@ use Rattle.puller.specs.Answers.{repeatNumber, repeatValues}
 use Rattle.puller.specs.declared.object.Repeat.{Repeat}
 use Rattle.puller.specs.declared.object.Repeat.the-variants as repeat
 use Rattle.puller.proofs.Answers.{entry-values, none-values}
+use Rattle.puller.proofs.Causes as puller
 use Rattle.puller.proofs.Promises.{first-repeat}
 use Rattle.pusher.specs.Record as pusher-record
 use Rattle.pusher.specs.declared.record.Setup.{Setup}
+use Rattle.pusher.proofs.Told as pusher
 use Rattle.channel.specs.Answers.{openingRefusal, openingValues}
 use Rattle.channel.specs.Opening.{openCases, duplicateOr, openingOf, heldOrder, restingAt, freshChannel, blankChannel, opened}
 use Rattle.channel.specs.Promises.{Twice, openPlain, AtRest, Fresh, Blank}
@@ -174,6 +176,13 @@ at-rest s mask active =
       acquire = refl;
       puller-error = refl;
     }
+
+-- two channels at rest differ in set-up and SLI numbers alone: every other field is said
+pub rest-is-one : (a b : Channel) → AtRest a → AtRest b → a .setup ≡ b .setup → a .pusher .sli ≡ b .pusher .sli → a ≡ b
+rest-is-one a b x y setup sli =
+    let e = pusher.error-told (a .pusher .error) (b .pusher .error) (x .pusher-error ∙ sym (y .pusher-error)) in
+    let f = puller.error-told (a .puller .error) (b .puller .error) (x .puller-error ∙ sym (y .puller-error)) in
+    rw (setup, sli, x .get, y .get, x .put, y .put, x .run, y .run, x .subroutine, y .subroutine, x .ib, y .ib, x .main, y .main, e, x .engines, y .engines, x .last, y .last, x .reference, y .reference, x .semaphore, y .semaphore, x .acquire, y .acquire, f)
 
 pub blank-is : Blank blankChannel
 blank-is = record { rest = at-rest _ _ _; level = refl; mode = refl; sli = refl; limit = refl; order = refl; mask = refl; active = refl }

@@ -60,7 +60,7 @@ use Rattle.channel.specs.declared.stepping.Stepped.{Stepped}
 use Rattle.channel.proofs.Leaving.{leaving, has-halves, leaves-plainly, leaves-one, refusing-is}
 use Rattle.channel.proofs.Formed.{formed, unformed}
 use Rattle.channel.proofs.Refusals.{refused-is, accepted-is, none-of, put-agree, step-agree}
-use Rattle.channel.proofs.OpensPlainly.{opened-answer, opened-blank, opened-open, open-plain, passed, duplicate-is, blank-is, fresh-is}
+use Rattle.channel.proofs.OpensPlainly.{opened-answer, opened-blank, opened-open, open-plain, passed, duplicate-is, rest-is-one, blank-is, fresh-is}
 use Rattle.channel.proofs.ByRole.{step-tells, whether-running, leaves, stopped-is, retry-is, move-is, submit-is}
 use Rattle.channel.proofs.AtMostOneMove.{at-most-one-move}
 use Rattle.channel.proofs.StaysWellFormed.{opened-formed, put-keeps, step-keeps}
@@ -157,13 +157,14 @@ with-ib c p m = choose-true (eq-eqb _ _ m) _ _
 pub accepted : Accepted
 accepted =
     record {
+      rest-is-one = rest-is-one;
       opens = λ level mode order sli mask limit t r h e. rw h (leaves-fresh level mode order sli mask limit t (rw h at e));
       put = λ c p r h e m. has-halves (ap (λ (y : Put). y .channel) (h ∙ put-accepted c p (rw h at e)) ∙ with-nv04 c p m);
       ib-put = λ c p r h e m. has-halves (ap (λ (y : Put). y .channel) (h ∙ put-accepted c p (rw h at e)) ∙ with-ib c p m);
     }
 
 pub lends : Lends
-lends = record { words = λ ws es t sems. refl; entries = λ ws es t sems. refl; table = λ ws es t sems. refl; semaphores = λ ws es t sems. refl }
+lends ws es t sems = refl
 
 pub one : One
 one =

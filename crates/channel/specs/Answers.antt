@@ -3,7 +3,6 @@
 use Prim.Native.Nat.{ℕ}
 use mathlib.Core.List.{List, [], _∷_}
 use mathlib.Core.Option.{Option, none, some}
-use Rattle.word.specs.Setting.{DUPLICATE}
 use Rattle.event.specs.Event.{values}
 use Rattle.channel.specs.declared.opening.Opening.{Opening}
 use Rattle.channel.specs.declared.opening.Opening.the-variants as opening
@@ -13,7 +12,7 @@ use Rattle.channel.specs.declared.stepping.Answer.the-variants as answer
 unfoldable pub openingRefusal : Opening → Option ℕ
 openingRefusal opening.Open = none
 openingRefusal (opening.Refused r) = some (r .number)
-openingRefusal (opening.Duplicate i) = some DUPLICATE
+openingRefusal (opening.Duplicate i) = some 6
 
 unfoldable pub stepRefusal : Answer → Option ℕ
 stepRefusal (answer.Event e) = none

@@ -165,6 +165,8 @@ pub record Halves (c : Channel) (p : Pusher) (q : Puller) (d : Channel) : Type 0
 
 -- What is not refused: the fresh channel, and the channel with its put.
 pub record Accepted : Type 0 where
+  -- what is said of a channel at rest leaves out its set-up and its SLI numbers alone: given these, there is one
+  pub rest-is-one : (a b : Channel) → AtRest a → AtRest b → a .setup ≡ b .setup → a .pusher .sli ≡ b .pusher .sli → a ≡ b
   pub opens :
       (level mode order : ℕ) (sli : Bool) (mask limit : ℕ) (t : List ℕ) (r : Opened)
       → Opens level mode order sli mask limit t r
@@ -184,12 +186,11 @@ pub record Accepted : Type 0 where
       → c .setup .setting .mode .number ≡ 1
       → Halves c (pusher-record.withIb (c .pusher) (c .pusher .ib .get) p) (c .puller) (r .channel)
 
--- What `step` is lent, by its own arguments, is what its contract speaks of: words, IB entries, object table, semaphore words.
-pub record Lends : Type 0 where
-  pub words : (ws es t sems : List ℕ) → toStep ws es t sems .pusher .words ≡ ws
-  pub entries : (ws es t sems : List ℕ) → toStep ws es t sems .pusher .entries ≡ es
-  pub table : (ws es t sems : List ℕ) → toStep ws es t sems .puller .table ≡ t
-  pub semaphores : (ws es t sems : List ℕ) → toStep ws es t sems .puller .semaphores ≡ sems
+-- What `step` is lent, by its own arguments, is what its contract speaks of, whole: words, IB entries, object table, semaphore words.
+abbrev pub Lends : Type 0
+Lends =
+    (ws es t sems : List ℕ)
+    → toStep ws es t sems ≡ record { pusher = record { words = ws; entries = es }; puller = record { table = t; semaphores = sems } }
 
 -- Each contract leaves one outcome: any two that it allows are equal.
 pub record One : Type 0 where

@@ -1,4 +1,5 @@
-// The associated constants are the paper's numbers: the check proves each line.
+// The associated constants of the errors have these numbers, which for the pusher are the paper's: the check
+// proves each line.
 use check::expect;
 use puller::PullerError;
 use pusher::PusherError;

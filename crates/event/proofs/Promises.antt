@@ -1,7 +1,8 @@
 -- The promises about kinds and events, each under its name in specs/Promises.antt. Assumes nothing.
-use Prim.Native.Nat.{ℕ, _-_}
+use Prim.Native.Nat.{ℕ}
 use mathlib.Core.Path.{_≡_, refl, sym, ap, ap₂, _∙_}
 use mathlib.Core.List.{List, [], _∷_}
+use mathlib.Core.Option.{some}
 use native.Mathlib.Omega.{arith}
 use lib.ListN.{length, getD}
 use Rattle.event.specs.Event.{number, values}
@@ -16,41 +17,32 @@ one k a b x y = x ∙ sym y
 
 pub kinds : Kinds
 unfolding number
-kinds = refl
-
--- the kind with a number, so that two kinds with one number are one kind
-kindOf : ℕ → Kind
-kindOf n =
-    getD
-    (kind.Command ∷ kind.Count ∷ kind.Bind ∷ kind.Ref ∷ kind.Event ∷ kind.Dma ∷ kind.Offset ∷ kind.Acquire ∷ kind.Release ∷ kind.Wait ∷ kind.Forward ∷ kind.Error ∷ kind.Entry ∷ kind.Discard ∷ kind.Idle ∷ [])
-    (n - 1)
-    kind.Stopped
-
-kind-of : (k : Kind) → kindOf (number k) ≡ k
-unfolding number kindOf
-kind-of kind.Command = refl
-kind-of kind.Count = refl
-kind-of kind.Bind = refl
-kind-of kind.Ref = refl
-kind-of kind.Event = refl
-kind-of kind.Dma = refl
-kind-of kind.Offset = refl
-kind-of kind.Acquire = refl
-kind-of kind.Release = refl
-kind-of kind.Wait = refl
-kind-of kind.Forward = refl
-kind-of kind.Error = refl
-kind-of kind.Entry = refl
-kind-of kind.Discard = refl
-kind-of kind.Idle = refl
-kind-of kind.Stopped = refl
+kinds kind.Command = refl
+kinds kind.Count = refl
+kinds kind.Bind = refl
+kinds kind.Ref = refl
+kinds kind.Event = refl
+kinds kind.Dma = refl
+kinds kind.Offset = refl
+kinds kind.Acquire = refl
+kinds kind.Release = refl
+kinds kind.Wait = refl
+kinds kind.Forward = refl
+kinds kind.Error = refl
+kinds kind.Entry = refl
+kinds kind.Discard = refl
+kinds kind.Idle = refl
+kinds kind.Stopped = refl
 
 -- the number at a place of two lists that are equal
 pub at : (i : ℕ) {l m : List ℕ} → l ≡ m → getD l i 0 ≡ getD m i 0
 at i e = ap (λ (l : List ℕ). getD l i 0) e
 
+-- so two kinds with one number are one kind
 same-kind : (j k : Kind) → number j ≡ number k → j ≡ k
-same-kind j k e = sym (kind-of j) ∙ ap kindOf e ∙ kind-of k
+same-kind j k e =
+    let same : some j ≡ some k = sym (kinds j) ∙ rw e (kinds k) in
+    cc
 
 same-method : (m n : Method) → m .subchannel ≡ n .subchannel → m .method ≡ n .method → m .parameter ≡ n .parameter → m ≡ n
 same-method m n a b c =

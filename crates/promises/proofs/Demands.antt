@@ -39,6 +39,8 @@ first =
       gate-reasons = rules-reasons.reasons;
       gate-first-pairs = rules-reasons.first-pairs;
       gate-at-one-pair = rules-reasons.at-one-pair;
+      counted = rules.counted;
+      c-gives-back = upborliya-back.gives-back;
       word-one = word.one;
       event-one = event.one;
       puller-one = puller.one;
@@ -114,8 +116,6 @@ third =
       exact-is-one = rules-exact.exact-is-one;
       none-bad = rules.none-bad;
       examples = rules-examples.examples;
-      counted = rules.counted;
-      c-gives-back = upborliya-back.gives-back;
     }
 
 pub demands : Demands

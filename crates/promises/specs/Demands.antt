@@ -1,7 +1,7 @@
--- The three demands, in the words in which they are signed, each with the statements that say it. A statement stands in specs/ of
--- the crate that it is about; it speaks of public functions through their contracts (that crate's specs/Contracts.antt), and that
--- every function meets its contract at every input is what the check of its crate proves. docs/PROMISES.md has each statement
--- in plain words.
+-- The three demands, in the inspector's own words, which are the ones that are signed; each with the statements that say it. A
+-- statement stands in specs/ of the crate that it is about; it speaks of public functions through their contracts (that crate's
+-- specs/Contracts.antt), and that every function meets its contract at every input is what the check of its crate proves.
+-- docs/PROMISES.md has each statement in plain words, and what signing does not cover.
 use Rattle.word.specs.Numbers as numbers
 use Rattle.word.specs.Promises as word
 use Rattle.word.specs.Forms as word-forms
@@ -18,8 +18,8 @@ use Rattle.upborliya.specs.Promises as upborliya
 use Rattle.listing.specs.Promises as listing
 use Rattle.trace.specs.Promises as trace
 
--- 1. "Any words, tables, maps and numbers get an answer. No public function has a `requires`. A refusal is one of the paper's
--- table, given exactly when the table says, and changes neither the channel nor lent memory."
+-- 1. "Any words, tables, maps and numbers at all get an answer. Nobody need check before calling. Each refusal to judge or act is one
+-- of those in the paper's table, given exactly when the table says, and changes neither the channel nor any lent memory."
 pub record First : Type 0 where
   pub word-refused : word.Refused
   pub channel-refused : channel.Refused
@@ -33,6 +33,9 @@ pub record First : Type 0 where
   pub gate-reasons : reasons.Reasons
   pub gate-first-pairs : reasons.FirstPairs
   pub gate-at-one-pair : reasons.AtOnePair
+  -- the count of the answer is the number of permitted methods, and the number for C gives the answer back
+  pub counted : rules.Counted
+  pub c-gives-back : upborliya.GivesBack
   -- and no contract leaves two outcomes
   pub word-one : word.One
   pub event-one : event.One
@@ -44,8 +47,9 @@ pub record First : Type 0 where
   pub listing-one : listing.One
   pub trace-one : trace.One
 
--- 2. "Every step of the channel does what the paper says: event, error, channel, semaphore words. What the writer writes reads
--- back as the same command; an accepted command writes back to the same words, but for the 8 unused bits of a long count."
+-- 2. "Every step of the channel does what the public PFIFO description says, as the paper condenses it: the same event, error,
+-- channel state and semaphore words. The writer of commands is exact too: what it writes reads back as the same command, and any
+-- accepted command writes back to the same words, but for the eight unused bits of a long count."
 pub record Second : Type 1 where
   -- what the channel, its pusher and its puller do, sentence by sentence, at every channel that is not refused
   pub steps : channel.Steps
@@ -108,11 +112,12 @@ pub record Second : Type 1 where
   pub words : numbers.Numbers
   pub entry : pusher.EntryNumbers
 
--- 3. "If the gatekeeper accepts words and an untrusted map of command starts, a fresh NV04-style channel (same level and SLI
--- setting, put once at the end of those words, limit not below the last) never raises a pusher error in any number of steps,
--- submits only permitted methods, reads no word both as command and as parameter, and has no command or subroutine open when its
--- read address reaches put. And where neither level, SLI setting nor sizes are refused and no place reached by the path rule is
--- bad, the map that marks exactly the reached places is accepted."
+-- 3. "The author supplies a map of where commands start; we don't trust it. If the gatekeeper accepts words and map, then a fresh
+-- NV04-style channel of the same level and SLI setting, put set once, at the end of those unchanged words, and the limit not below
+-- the last one, never raises a pusher error in any number of steps, submits only permitted methods, reads no word both as command
+-- and as parameter, and when its read address reaches put has no command or subroutine open. And where the table refuses neither
+-- level, SLI setting nor sizes, and no place reached by the paper's path rule is bad, the map that marks exactly the reached places
+-- is accepted."
 pub record Third : Type 0 where
   pub sound : rules.Sound
   -- of the pusher's moves alone, and how a step comes to one
@@ -125,9 +130,6 @@ pub record Third : Type 0 where
   pub none-bad : rules.NoneBad
   -- small submissions that the second half speaks of, and one with a bad place
   pub examples : examples.Examples
-  -- the count of the answer is the number of permitted methods, and the number for C gives the answer back
-  pub counted : rules.Counted
-  pub c-gives-back : upborliya.GivesBack
 
 pub record Demands : Type 1 where
   pub first : First

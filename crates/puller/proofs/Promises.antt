@@ -313,7 +313,7 @@ errors =
     }
 
 pub lends : Lends
-lends = record { table = λ t sems. refl; semaphores = λ t sems. refl }
+lends t sems = refl
 
 pub one : One
 one =

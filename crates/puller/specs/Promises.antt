@@ -421,10 +421,9 @@ pub record Failing : Type 0 where
       → (number (r .puller .error) ≡ 0 → ⊥)
       → Fails p (r .puller .error) r
 
--- What `take` is lent, by its own arguments, is what its contract speaks of.
-pub record Lends : Type 0 where
-  pub table : (t sems : List ℕ) → toPuller t sems .table ≡ t
-  pub semaphores : (t sems : List ℕ) → toPuller t sems .semaphores ≡ sems
+-- What `take` is lent, by its own arguments, is what its contract speaks of, whole.
+abbrev pub Lends : Type 0
+Lends = (t sems : List ℕ) → toPuller t sems ≡ record { table = t; semaphores = sems }
 
 -- Each contract leaves one outcome.
 pub record One : Type 0 where

@@ -321,7 +321,7 @@ setters =
     }
 
 pub lends : Lends
-lends = record { words = λ ws es. refl; entries = λ ws es. refl }
+lends ws es = refl
 
 pub one : One
 one = record { push = λ s p l a b x y. one-outcome x y; number = λ e a b x y. one-outcome x y; stopped = λ p a b x y. one-outcome x y }

@@ -388,10 +388,9 @@ pub record Setters : Type 0 where
 abbrev pub Told : Type 0
 Told = (x y : Did) → didNumber x ≡ didNumber y → didValues x ≡ didValues y → x ≡ y
 
--- What `push` is lent, by its own arguments, is what its contract speaks of.
-pub record Lends : Type 0 where
-  pub words : (ws es : List ℕ) → toPusher ws es .words ≡ ws
-  pub entries : (ws es : List ℕ) → toPusher ws es .entries ≡ es
+-- What `push` is lent, by its own arguments, is what its contract speaks of, whole.
+abbrev pub Lends : Type 0
+Lends = (ws es : List ℕ) → toPusher ws es ≡ record { words = ws; entries = es }
 
 -- Each contract leaves one outcome.
 pub record One : Type 0 where

@@ -1,7 +1,11 @@
 // Prints what a channel does with the command words on standard input, step by step. What a line says,
-// when the run ends and what is refused is the library's, `trace`.
+// when the run ends and what is refused is the library's, `trace`. Where it can't read or write it says
+// so on standard error, since no program in Rattle has an exit status.
+mod input;
+
 ghost use Prim.Native.Nat.{_≤_};
-use libc::STDIN_FILENO;
+use input::Input;
+use libc::STDERR_FILENO;
 use libc::STDOUT_FILENO;
 use trace::BUDGET;
 use trace::Line;
@@ -25,38 +29,54 @@ fn main() {
 }
 
 // The arrays are parameters: of one made here, the checker would count the elements one by one.
-fn run(
-    mut bytes: [u8; MOST_READ],
-    mut words: [u32; MOST_WORDS],
-    mut semaphores: [u32; SEMAPHORES],
-) {
-    let length = io::read_full(STDIN_FILENO, &mut bytes);
-    let count = trace::words_in(&bytes[..length], &mut words);
-    let end = within(count, MOST_WORDS);
-    tell(trace::begin(length), &words[..end], &mut semaphores);
+fn run(mut bytes: [u8; MOST_READ], words: [u32; MOST_WORDS], semaphores: [u32; SEMAPHORES]) {
+    let Input::Bytes(length) = input::read(&mut bytes) else {
+        complain(b"pushtrace: standard input can't be read\n");
+        return;
+    };
+    if !print_trace(&bytes[..length], words, semaphores) {
+        complain(b"pushtrace: standard output can't be written\n");
+    }
 }
 
-// Prints the lines of a run. It ends early where they can't be written.
-fn tell(trace: Trace, words: &[u32], semaphores: &mut [u32]) {
+// Prints the trace of the words that the bytes are, and answers whether it could be written.
+fn print_trace(
+    bytes: &[u8],
+    mut words: [u32; MOST_WORDS],
+    mut semaphores: [u32; SEMAPHORES],
+) -> bool {
+    let count = trace::words_in(bytes, &mut words);
+    let end = within(count, MOST_WORDS);
+    tell(trace::begin(bytes.len()), &words[..end], &mut semaphores)
+}
+
+// Prints the lines of a run, and answers whether they could be written. It ends at the first that
+// could not.
+fn tell(trace: Trace, words: &[u32], semaphores: &mut [u32]) -> bool {
     let mut trace = trace;
     for _ in 0..MOST_LINES {
         let told = trace::next_line(trace, words, semaphores);
         let line = told.line;
         if !print(line) {
-            return;
+            return false;
         }
         trace = told.trace;
         let stage = trace.stage;
         if let Stage::Over = stage {
-            return;
+            return true;
         }
     }
+    true
 }
 
 fn print(line: Line) -> bool {
     let bytes = line.bytes;
     let end = within(line.length, MOST_TEXT);
     io::write_all(STDOUT_FILENO, &bytes[..end])
+}
+
+fn complain(message: &[u8]) {
+    io::write_all(STDERR_FILENO, message);
 }
 
 fn within(n: usize, most: usize) -> usize

@@ -136,13 +136,13 @@ pub record SafePusher (s : Setup) (ws list : List ℕ) (p : Pusher) : Type 0 whe
       → Permitted list (m .subchannel) (m .method / 4)
   -- so too by the word: one that is read as a parameter goes to a permitted method
   pub parameter : (l : PusherLoan) → l .words ≡ ws → pusher.ReadsParameter s p l → Permitted list (p .run .subchannel) (p .run .method)
-  -- "has no command or subroutine open when its read address reaches put"
+  -- "when its read address reaches put has no command or subroutine open"
   pub closed : p .get ≡ p .put → Closed p
 
 -- a pusher before its first move, at a set-up in NV04-style, with put at the end of the words
 pub record FreshPusher (level : ℕ) (sli : Bool) (ws : List ℕ) (s : Setup) (p : Pusher) : Type 0 where
   pub setting : s .setting ≡ settingOf level sli
-  -- "limit not below the last"
+  -- "the limit not below the last one"
   pub limit : (i : ℕ) → i < length ws → 4 * i ≤ s .limit
   pub get : p .get ≡ 0
   pub put : p .put ≡ 4 * length ws
@@ -170,8 +170,9 @@ SoundMoves =
 
 -- And of the channel, by its own opening, put and steps.
 
--- "a fresh NV04-style channel (same level and SLI setting, put once at the end of those words, limit not below the last)", with
--- any SLI mask and any object table that can be opened
+-- "a fresh NV04-style channel of the same level and SLI setting, put set once, at the end of those unchanged words, and the limit not
+-- below the last one", with any SLI mask and any object table that can be opened; that the words are unchanged is said where steps
+-- are made
 pub record Started (level : ℕ) (sli : Bool) (ws : List ℕ) : Type 0 where
   pub order : ℕ
   pub mask : ℕ
@@ -255,7 +256,7 @@ Sound =
 
 -- Promise 3, its second half.
 
--- "where neither level, SLI setting nor sizes are refused"; the map's size is said by `Exact`
+-- "where the table refuses neither level, SLI setting nor sizes"; the map's size is said by `Exact`
 pub record Sized (level : ℕ) (sli : Bool) (bytes list : List ℕ) : Type 0 where
   pub level-fits : level ≤ 5
   pub sli-fits : sli ≡ true → 3 ≤ level
@@ -263,7 +264,8 @@ pub record Sized (level : ℕ) (sli : Bool) (bytes list : List ℕ) : Type 0 whe
   pub whole : length bytes % 4 ≡ 0
   pub permit : length list ≡ 2048
 
--- "and no place reached by the path rule is bad, the map that marks exactly the reached places is accepted", with the true count
+-- "and no place reached by the paper's path rule is bad, the map that marks exactly the reached places is accepted", with the true
+-- count
 abbrev pub Complete : Type 0
 Complete =
     (level : ℕ) (sli : Bool) (bytes map list : List ℕ) (r : Judgement)

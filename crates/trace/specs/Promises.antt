@@ -6,7 +6,7 @@ use mathlib.Core.Path.{_≡_}
 use mathlib.Core.Bool.{Bool, true, false}
 use mathlib.Core.List.{List, [], _∷_, _++_, map, foldl}
 use mathlib.Core.Logic.{_↔_, _⊎_}
-use mathlib.Core.Option.{none, some}
+use mathlib.Core.Option.{Option, none, some}
 use lib.ListN.{length, getD, take, drop, replicate}
 use Rattle.word.specs.First.{PlainCase, _if_, FirstIs}
 use Rattle.word.specs.Lent.{wordsOf}
@@ -205,29 +205,24 @@ pub record Texts : Type 0 where
   pub character : (c : Char) (s : String) → text (c and s) ≡ code c ∷ text s
   pub number : (n : ℕ) → n < 2 ^ 64 → Decimal n (decimal n)
 
--- The names, each in the paper's list at the number of what it names; at 0 and past the list there is none.
+-- The names of kinds and errors, in the paper's lists, each at the number of what it names: "`kind` is command, count, bind, ref, event,
+-- dma, offset, acquire, release, wait, forward or error, in the library also entry, discard, idle and stopped"
+abbrev pub kindsNamed : List (Option String)
+kindsNamed = none ∷ some "command" ∷ some "count" ∷ some "bind" ∷ some "ref" ∷ some "event" ∷ some "dma" ∷ some "offset" ∷ some "acquire" ∷ some "release" ∷ some "wait" ∷ some "forward" ∷ some "error" ∷ some "entry" ∷ some "discard" ∷ some "idle" ∷ some "stopped" ∷ []
+
+-- "Pusher errors: 1 CALL, 2 NON_CACHE, 3 RETURN, 4 RESERVED_CMD, 5 IB, 6 PROTECTION"
+abbrev pub pusherNamed : List (Option String)
+pusherNamed = some "" ∷ some "CALL" ∷ some "NON_CACHE" ∷ some "RETURN" ∷ some "RESERVED_CMD" ∷ some "IB" ∷ some "PROTECTION" ∷ []
+
+-- "CACHE_ERROR NO_HASH", "EMPTY_SUBCHANNEL", "SEMAPHORE 1" to 4; "as NON_CACHE or SEMAPHORE_2"
+abbrev pub pullerNamed : List (Option String)
+pullerNamed = some "" ∷ some "NO_HASH" ∷ some "EMPTY_SUBCHANNEL" ∷ some "SEMAPHORE_1" ∷ some "SEMAPHORE_2" ∷ some "SEMAPHORE_3" ∷ some "SEMAPHORE_4" ∷ []
+
+-- No kind and no error is left out; 0, no error, has the empty name. Of the refusals' numbers, 0 and those past the list have it.
 pub record Names : Type 0 where
-  -- "`kind` is command, count, bind, ref, event, dma, offset, acquire, release, wait, forward or error, in the library also entry,
-  -- discard, idle and stopped"
-  pub kinds :
-      (k : Kind)
-      → kindName k
-      ≡ getD
-      ("" ∷ "command" ∷ "count" ∷ "bind" ∷ "ref" ∷ "event" ∷ "dma" ∷ "offset" ∷ "acquire" ∷ "release" ∷ "wait" ∷ "forward" ∷ "error" ∷ "entry" ∷ "discard" ∷ "idle" ∷ "stopped" ∷ [])
-      (number k)
-      ""
-  -- "Pusher errors: 1 CALL, 2 NON_CACHE, 3 RETURN, 4 RESERVED_CMD, 5 IB, 6 PROTECTION"
-  pub pusher :
-      (c : Cause) (n : ℕ)
-      → causeNumber c ≡ 1
-      → causeValues c ≡ n ∷ []
-      → causeName c ≡ getD ("" ∷ "CALL" ∷ "NON_CACHE" ∷ "RETURN" ∷ "RESERVED_CMD" ∷ "IB" ∷ "PROTECTION" ∷ []) n ""
-  -- "CACHE_ERROR NO_HASH", "EMPTY_SUBCHANNEL", "SEMAPHORE 1" to 4; "as NON_CACHE or SEMAPHORE_2"
-  pub puller :
-      (c : Cause) (n : ℕ)
-      → causeNumber c ≡ 2
-      → causeValues c ≡ n ∷ []
-      → causeName c ≡ getD ("" ∷ "NO_HASH" ∷ "EMPTY_SUBCHANNEL" ∷ "SEMAPHORE_1" ∷ "SEMAPHORE_2" ∷ "SEMAPHORE_3" ∷ "SEMAPHORE_4" ∷ []) n ""
+  pub kinds : (k : Kind) → getD kindsNamed (number k) none ≡ some (kindName k)
+  pub pusher : (c : Cause) (n : ℕ) → causeNumber c ≡ 1 → causeValues c ≡ n ∷ [] → getD pusherNamed n none ≡ some (causeName c)
+  pub puller : (c : Cause) (n : ℕ) → causeNumber c ≡ 2 → causeValues c ≡ n ∷ [] → getD pullerNamed n none ≡ some (causeName c)
   -- the table of refusal numbers
   pub refusals :
       map refusalName (1 ∷ 2 ∷ 3 ∷ 4 ∷ 5 ∷ 6 ∷ 7 ∷ 8 ∷ 9 ∷ 10 ∷ 11 ∷ 12 ∷ 13 ∷ [])
