@@ -1,8 +1,8 @@
 -- The promises about kinds and events, each proved under its own name in proofs/.
 use Prim.Native.Nat.{ℕ}
 use mathlib.Core.Path.{_≡_}
-use mathlib.Core.List.{[], _∷_}
-use mathlib.Core.Option.{none, some}
+use mathlib.Core.List.{List, [], _∷_, map}
+use mathlib.Core.Option.{Option, none, some}
 use lib.ListN.{getD}
 use Rattle.event.specs.Event.{number, values}
 use Rattle.event.specs.Contracts.{Numbers}
@@ -14,16 +14,20 @@ use Rattle.event.specs.declared.Event.{Event}
 abbrev pub One : Type 0
 One = (k : Kind) (a b : ℕ) → Numbers k a → Numbers k b → a ≡ b
 
+-- Every x of a type stands in a list, at the place that its number counts, from 0; a place that is nobody's has none.
+abbrev pub StandsIn : {A : Type 0} → List (Option A) → (A → ℕ) → Type 0
+StandsIn {A = A} list numberOf = (x : A) → getD list (numberOf x) none ≡ some x
+
 -- "`kind` is command, count, bind, ref, event, dma, offset, acquire, release, wait, forward or error, in the library also
--- entry, discard, idle and stopped": every kind stands in that list, and its number is its place there.
-abbrev pub Kinds : Type 0
-Kinds =
-    (k : Kind)
-    → getD
-    (none ∷ some kind.Command ∷ some kind.Count ∷ some kind.Bind ∷ some kind.Ref ∷ some kind.Event ∷ some kind.Dma ∷ some kind.Offset ∷ some kind.Acquire ∷ some kind.Release ∷ some kind.Wait ∷ some kind.Forward ∷ some kind.Error ∷ some kind.Entry ∷ some kind.Discard ∷ some kind.Idle ∷ some kind.Stopped ∷ [])
-    (number k)
+-- entry, discard, idle and stopped": a kind's number is its place in that list, from 1.
+abbrev pub kindList : List (Option Kind)
+kindList =
     none
-    ≡ some k
+    ∷ map some
+    (kind.Command ∷ kind.Count ∷ kind.Bind ∷ kind.Ref ∷ kind.Event ∷ kind.Dma ∷ kind.Offset ∷ kind.Acquire ∷ kind.Release ∷ kind.Wait ∷ kind.Forward ∷ kind.Error ∷ kind.Entry ∷ kind.Discard ∷ kind.Idle ∷ kind.Stopped ∷ [])
+
+abbrev pub Kinds : Type 0
+Kinds = StandsIn kindList number
 
 -- An event is told by its numbers: what a promise says of an event, it says of them.
 abbrev pub Told : Type 0

@@ -1,11 +1,11 @@
 -- An error's number says whether it halts, and which it is. Assumes nothing.
-use Prim.Native.Nat.{ℕ}
-use mathlib.Core.Path.{_≡_, refl, sym, ap, _∙_}
+use mathlib.Core.Path.{_≡_, refl, ap}
 use mathlib.Core.Bool.{true, false, not}
-use mathlib.Core.List.{[], _∷_}
-use lib.ListN.{getD}
 use borrow.Author.Tests.{eq-eqb, ne-eqb}
+use Rattle.event.specs.Promises.{StandsIn}
+use Rattle.event.proofs.Promises.{numbered-told}
 use Rattle.puller.specs.Record.{number, halts}
+use Rattle.puller.specs.Promises.{errorList}
 use Rattle.puller.specs.declared.record.PullerError.{PullerError}
 use Rattle.puller.specs.declared.record.PullerError.the-variants as cause
 
@@ -17,19 +17,16 @@ pub stands : (e : PullerError) → (number e ≡ 0 → ⊥) → halts e ≡ true
 unfolding halts
 stands e n = ap not (ne-eqb _ _ n)
 
--- the error with a number, so that two errors with one number are one error
-errorOf : ℕ → PullerError
-errorOf n = getD (cause.None ∷ cause.NoHash ∷ cause.EmptySubchannel ∷ cause.Semaphore1 ∷ cause.Semaphore2 ∷ cause.Semaphore3 ∷ []) n cause.Semaphore4
-
-error-of : (e : PullerError) → errorOf (number e) ≡ e
-unfolding number errorOf
-error-of cause.None = refl
-error-of cause.NoHash = refl
-error-of cause.EmptySubchannel = refl
-error-of cause.Semaphore1 = refl
-error-of cause.Semaphore2 = refl
-error-of cause.Semaphore3 = refl
-error-of cause.Semaphore4 = refl
+-- an error by its number
+pub error-numbered : StandsIn errorList number
+unfolding number
+error-numbered cause.None = refl
+error-numbered cause.NoHash = refl
+error-numbered cause.EmptySubchannel = refl
+error-numbered cause.Semaphore1 = refl
+error-numbered cause.Semaphore2 = refl
+error-numbered cause.Semaphore3 = refl
+error-numbered cause.Semaphore4 = refl
 
 pub error-told : (d e : PullerError) → number d ≡ number e → d ≡ e
-error-told d e n = sym (error-of d) ∙ ap errorOf n ∙ error-of e
+error-told d e n = numbered-told errorList number error-numbered d e n

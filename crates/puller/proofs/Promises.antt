@@ -23,6 +23,7 @@ use Rattle.puller.specs.declared.taking.Taken.{Taken}
 use Rattle.puller.proofs.Table.{named-is, unnamed-is, names-found, names-nothing, named-or-not, repeat-is, repeat-nothing}
 use Rattle.puller.proofs.Leaving.{done-leaves, says-leaves, failed-fails, leaves-one, fails-one}
 use Rattle.puller.proofs.Answers.{object-values, nothing-values, object-told, nothing-told, entry-values, none-values, entry-told, none-told}
+use Rattle.puller.proofs.Causes.{error-numbered}
 use Rattle.puller.proofs.Deeds.{numbered, logs-at, no-effect-at, looks-at, forwards-at}
 use Rattle.puller.proofs.Sentences.{taken-as, unfit-or-not, bind-none, dma-none, object-none, bind-is, bind-software-is, dma-unfit-is, dma-is, object-is, offset-outside-is, offset-below-4-is, offset-unaligned-is, offset-too-large-is, offset-from-4-is, ready-or-not, past-end-of, tried-past, tried-equal, tried-unequal, acquire-unready, release-unready, acquire-past, release-past, acquire-is, wait-is, release-is, forward-software-is, forward-is}
 
@@ -299,16 +300,10 @@ setters =
     }
 
 pub errors : Errors
-unfolding number halts
+unfolding halts
 errors =
     record {
-      none = refl;
-      no-hash = refl;
-      empty-subchannel = refl;
-      semaphore-1 = refl;
-      semaphore-2 = refl;
-      semaphore-3 = refl;
-      semaphore-4 = refl;
+      numbers = error-numbered;
       stopped = λ p a h. rw h (not-plain _ (equal-plain (number (p .error)) 0));
     }
 

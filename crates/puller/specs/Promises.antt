@@ -3,11 +3,13 @@
 use Prim.Native.Nat.{ℕ, _+_, _*_, _/_, _%_, _^_, _≤_, _<_}
 use mathlib.Core.Path.{_≡_}
 use mathlib.Core.Bool.{Bool, true, false}
-use mathlib.Core.List.{List, [], _∷_}
+use mathlib.Core.List.{List, [], _∷_, map}
 use mathlib.Core.Logic.{_⊎_, _↔_}
+use mathlib.Core.Option.{Option, some}
 use lib.ListN.{length, getD, set}
 use Rattle.word.specs.declared.setting.Level.{Level}
 use Rattle.event.specs.Event.{values, number as kindNumber}
+use Rattle.event.specs.Promises.{StandsIn}
 use Rattle.event.specs.declared.Kind.{Kind}
 use Rattle.event.specs.declared.Kind.the-variants as kind
 use Rattle.event.specs.declared.Method.{Method}
@@ -389,14 +391,11 @@ pub record NoOther : Type 1 where
 
 -- The errors' numbers: "CACHE_ERROR NO_HASH", EMPTY_SUBCHANNEL, SEMAPHORE 1 to 4 in that order, and 0 for none. "Any puller error
 -- stops the channel": `stopped` says whether there is one.
+abbrev pub errorList : List (Option PullerError)
+errorList = map some (cause.None ∷ cause.NoHash ∷ cause.EmptySubchannel ∷ cause.Semaphore1 ∷ cause.Semaphore2 ∷ cause.Semaphore3 ∷ cause.Semaphore4 ∷ [])
+
 pub record Errors : Type 0 where
-  pub none : number cause.None ≡ 0
-  pub no-hash : number cause.NoHash ≡ 1
-  pub empty-subchannel : number cause.EmptySubchannel ≡ 2
-  pub semaphore-1 : number cause.Semaphore1 ≡ 3
-  pub semaphore-2 : number cause.Semaphore2 ≡ 4
-  pub semaphore-3 : number cause.Semaphore3 ≡ 5
-  pub semaphore-4 : number cause.Semaphore4 ≡ 6
+  pub numbers : StandsIn errorList number
   pub stopped : (p : Puller) (a : Bool) → Halts p a → a ≡ true ↔ (number (p .error) ≡ 0 → ⊥)
 
 -- "Any puller error stops the channel; ... (a retry has none and stays active); no semaphore word changes."

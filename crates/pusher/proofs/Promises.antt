@@ -34,6 +34,7 @@ use Rattle.pusher.proofs.Roles.{above-limit, past-words, past-entries, 
 use Rattle.pusher.proofs.Share.{share}
 use Rattle.pusher.proofs.Outcomes.{says-of, discards-of, hands-over-of, fails-of, leaves-one, fails-one}
 use Rattle.pusher.proofs.Sentences.{runs, stands, past-of, keeps, by-role, count-is, parameter-is, command-is, non-cache-is, discard-is, submit-is, taken, rises-of, used-up-is, entry-is, empty-is, not-main-is, main-is}
+use Rattle.pusher.proofs.Told.{error-numbered}
 
 -- "above dma_limit ..., or beyond the lent words"
 beyond-is : (s : Setup) (p : Pusher) (l : PusherLoan) → Running p → (p .get ≡ p .put → ⊥) → ((s .limit < p .get) ⊎ (length (l .words) ≤ p .get / 4)) → role s p l ≡ faults
@@ -292,16 +293,9 @@ pub no-other : NoOther
 no-other R h s p l r m = moved R h s p l r m _ _ _ _ refl refl refl refl
 
 pub errors : Errors
-unfolding number
 errors =
     record {
-      none = refl;
-      call = refl;
-      non-cache = refl;
-      return = refl;
-      reserved-cmd = refl;
-      ib = refl;
-      protection = refl;
+      numbers = error-numbered;
       stopped = λ p a h. (λ on run. false≢true (sym (runs (p .error) run) ∙ sym h ∙ on), λ n. h ∙ stands (p .error) n);
     }
 

@@ -1,16 +1,17 @@
 -- What a move did is told by its number and values, and an error by its number. Assumes nothing.
 use Prim.Native.Nat.{ℕ}
-use mathlib.Core.Path.{_≡_, refl, sym, ap, _∙_}
-use mathlib.Core.List.{List, [], _∷_}
+use mathlib.Core.Path.{_≡_, refl, ap}
+use mathlib.Core.List.{List}
 use native.Mathlib.Omega.{arith}
 use lib.ListN.{getD}
 use Rattle.event.specs.Event.{values}
+use Rattle.event.specs.Promises.{StandsIn}
 use Rattle.event.specs.declared.Method.{Method}
 use Rattle.event.specs.declared.Event.{Event}
 use Rattle.event.proofs.Promises as event
 use Rattle.pusher.specs.Record.{number}
 use Rattle.pusher.specs.Answers.{didNumber, didValues, methodValues, Tells}
-use Rattle.pusher.specs.Promises.{Told}
+use Rattle.pusher.specs.Promises.{errorList, Told}
 use Rattle.pusher.specs.declared.record.PusherError.{PusherError}
 use Rattle.pusher.specs.declared.record.PusherError.the-variants as cause
 use Rattle.pusher.specs.declared.moving.Did.{Did}
@@ -46,19 +47,16 @@ pub submit-did : {d : Did} {m : Method} → d ≡ did.Submit m → Tells d 2 (me
 unfolding didNumber didValues
 submit-did h = rw h (record { number = refl; values = refl })
 
--- the error with a number, so that two errors with one number are one error
-errorOf : ℕ → PusherError
-errorOf n = getD (cause.None ∷ cause.Call ∷ cause.NonCache ∷ cause.Return ∷ cause.ReservedCmd ∷ cause.Ib ∷ []) n cause.Protection
-
-error-of : (e : PusherError) → errorOf (number e) ≡ e
-unfolding number errorOf
-error-of cause.None = refl
-error-of cause.Call = refl
-error-of cause.NonCache = refl
-error-of cause.Return = refl
-error-of cause.ReservedCmd = refl
-error-of cause.Ib = refl
-error-of cause.Protection = refl
+-- an error by its number
+pub error-numbered : StandsIn errorList number
+unfolding number
+error-numbered cause.None = refl
+error-numbered cause.Call = refl
+error-numbered cause.NonCache = refl
+error-numbered cause.Return = refl
+error-numbered cause.ReservedCmd = refl
+error-numbered cause.Ib = refl
+error-numbered cause.Protection = refl
 
 pub error-told : (d e : PusherError) → number d ≡ number e → d ≡ e
-error-told d e n = sym (error-of d) ∙ ap errorOf n ∙ error-of e
+error-told d e n = event.numbered-told errorList number error-numbered d e n

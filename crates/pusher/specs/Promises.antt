@@ -3,13 +3,15 @@
 use Prim.Native.Nat.{ℕ, _+_, _-_, _*_, _/_, _%_, _^_, _≤_, _<_}
 use mathlib.Core.Path.{_≡_}
 use mathlib.Core.Bool.{Bool, true, false}
-use mathlib.Core.List.{List, [], _∷_}
+use mathlib.Core.List.{List, [], _∷_, map}
 use mathlib.Core.Logic.{_⊎_, _↔_}
+use mathlib.Core.Option.{Option, some}
 use lib.ListN.{length, getD}
 use Rattle.word.specs.Contracts.{Reads, Presents}
 use Rattle.word.specs.Reading as reading
 use Rattle.word.specs.declared.reading.Reading.{Reading}
 use Rattle.event.specs.Event as event
+use Rattle.event.specs.Promises.{StandsIn}
 use Rattle.event.specs.declared.Kind.{Kind}
 use Rattle.event.specs.declared.Kind.the-variants as kind
 use Rattle.pusher.specs.Loan.{PusherLoan, toPusher}
@@ -361,14 +363,11 @@ pub record Failing : Type 0 where
 
 -- "Pusher errors: 1 CALL, 2 NON_CACHE, 3 RETURN, 4 RESERVED_CMD, 5 IB, 6 PROTECTION", 0 for none. "Stopped by an error": `stopped`
 -- says so of each, and of none it does not.
+abbrev pub errorList : List (Option PusherError)
+errorList = map some (cause.None ∷ cause.Call ∷ cause.NonCache ∷ cause.Return ∷ cause.ReservedCmd ∷ cause.Ib ∷ cause.Protection ∷ [])
+
 pub record Errors : Type 0 where
-  pub none : number cause.None ≡ 0
-  pub call : number cause.Call ≡ 1
-  pub non-cache : number cause.NonCache ≡ 2
-  pub return : number cause.Return ≡ 3
-  pub reserved-cmd : number cause.ReservedCmd ≡ 4
-  pub ib : number cause.Ib ≡ 5
-  pub protection : number cause.Protection ≡ 6
+  pub numbers : StandsIn errorList number
   pub stopped : (p : Pusher) (a : Bool) → Halts p a → a ≡ true ↔ (Running p → ⊥)
 
 -- The pusher, or its run, with one thing changed, as the sentences say it: that and nothing else.

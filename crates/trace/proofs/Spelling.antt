@@ -1,28 +1,28 @@
 -- `Texts`, `Names` and `Whole`: what the lines say, in the paper's words. Assumes nothing.
-use Prim.Native.Nat.{ℕ, _<_}
+use Prim.Native.Nat.{ℕ, zero, suc, _<_}
+use Prim.Native.String.{String}
 use mathlib.Core.Path.{_≡_, refl, subst}
-use mathlib.Core.List.{List, [], _∷_, _++_, append-assoc}
+use mathlib.Core.List.{List, [], _∷_, _++_, map, append-assoc}
 use mathlib.Core.Logic.{_⊎_, ⊎-elim}
 use mathlib.Core.Option.{none, some}
 use native.Mathlib.Omega.{arith}
-use lib.ListN.{getD, List·getD-eq-default}
+use lib.ListN.{length, getD, List·getD-eq-default}
 use Rattle.event.specs.Event.{number, values}
-use Rattle.event.specs.declared.Kind.{Kind}
-use Rattle.event.specs.declared.Kind.the-variants as kind
+use Rattle.event.specs.Promises.{kindList}
 use Rattle.event.specs.declared.Method.{Method}
 use Rattle.event.specs.declared.Event.the-variants.{Plain, Of}
-use Rattle.event.proofs.Promises.{at, told}
+use Rattle.event.proofs.Promises.{at, within, told, kinds as kind-numbered}
 use Rattle.pusher.specs.Record as pusher
-use Rattle.pusher.specs.declared.record.PusherError.{PusherError}
-use Rattle.pusher.specs.declared.record.PusherError.the-variants as pushing
+use Rattle.pusher.specs.Promises.{errorList as pusherList}
+use Rattle.pusher.proofs.Told.{error-numbered as pusher-numbered}
 use Rattle.puller.specs.Record as puller
-use Rattle.puller.specs.declared.record.PullerError.{PullerError}
-use Rattle.puller.specs.declared.record.PullerError.the-variants as pulling
+use Rattle.puller.specs.Promises.{errorList as pullerList}
+use Rattle.puller.proofs.Causes.{error-numbered as puller-numbered}
 use Rattle.trace.specs.Text.{text}
 use Rattle.trace.specs.Names.{name, kinds, kindName, pusherErrors, pullerErrors, pusherName, pullerName, causeName, refusals, refusalName}
 use Rattle.trace.specs.Lines.{field, fields, eventText, stepText, endPart, endText, refusedText}
 use Rattle.trace.specs.Answers.{causeNumber, causeValues}
-use Rattle.trace.specs.Promises.{kindsNamed, pusherNamed, pullerNamed, Has, Texts, Names, Whole}
+use Rattle.trace.specs.Promises.{pusherNamed, pullerNamed, Has, Texts, Names, Whole}
 use Rattle.trace.specs.declared.line.Line.{Line}
 use Rattle.trace.specs.declared.end.Cause.{Cause}
 use Rattle.trace.specs.declared.end.Cause.the-variants as cause
@@ -35,55 +35,26 @@ pub texts : Texts
 unfolding text
 texts = record { nothing = refl; character = λ c s. refl; number = decimal-plain }
 
--- a kind's name is at its number, and so is an error's, in the list of its half: none is left out
-kind-named : (k : Kind) → getD kindsNamed (number k) none ≡ some (kindName k)
-unfolding number kinds kindName
-kind-named kind.Command = refl
-kind-named kind.Count = refl
-kind-named kind.Bind = refl
-kind-named kind.Ref = refl
-kind-named kind.Event = refl
-kind-named kind.Dma = refl
-kind-named kind.Offset = refl
-kind-named kind.Acquire = refl
-kind-named kind.Release = refl
-kind-named kind.Wait = refl
-kind-named kind.Forward = refl
-kind-named kind.Error = refl
-kind-named kind.Entry = refl
-kind-named kind.Discard = refl
-kind-named kind.Idle = refl
-kind-named kind.Stopped = refl
+-- at a place within a list stands the same, wrapped or plain
+some-at : (l : List String) (n : ℕ) → n < length l → getD (map some l) n none ≡ some (getD l n "")
+some-at [] n h = absurd (omega arith)
+some-at (x ∷ l) zero h = refl
+some-at (x ∷ l) (suc n) h = some-at l n (omega arith)
 
-pusher-named : (e : PusherError) → getD pusherNamed (pusher.number e) none ≡ some (pusherName e)
-unfolding pusher.number pusherErrors pusherName
-pusher-named pushing.None = refl
-pusher-named pushing.Call = refl
-pusher-named pushing.NonCache = refl
-pusher-named pushing.Return = refl
-pusher-named pushing.ReservedCmd = refl
-pusher-named pushing.Ib = refl
-pusher-named pushing.Protection = refl
-
-puller-named : (e : PullerError) → getD pullerNamed (puller.number e) none ≡ some (pullerName e)
-unfolding puller.number pullerErrors pullerName
-puller-named pulling.None = refl
-puller-named pulling.NoHash = refl
-puller-named pulling.EmptySubchannel = refl
-puller-named pulling.Semaphore1 = refl
-puller-named pulling.Semaphore2 = refl
-puller-named pulling.Semaphore3 = refl
-puller-named pulling.Semaphore4 = refl
-
+-- an error's name is at its number, in the list of its half
 pusher-is : (c : Cause) (n : ℕ) → causeNumber c ≡ 1 → causeValues c ≡ n ∷ [] → getD pusherNamed n none ≡ some (causeName c)
-unfolding causeNumber causeValues causeName
-pusher-is (cause.Pusher e) n k v = let same : pusher.number e ≡ n = at 0 v in rw (← same) (pusher-named e)
+unfolding causeNumber causeValues pusherErrors pusherName causeName
+pusher-is (cause.Pusher e) n k v =
+    let same : pusher.number e ≡ n = at 0 v in
+    rw (← same) (some-at ("" ∷ pusherErrors) (pusher.number e) (within pusherList (pusher.number e) e (pusher-numbered e)))
 pusher-is (cause.Puller e) n k v = absurd (omega arith)
 
 puller-is : (c : Cause) (n : ℕ) → causeNumber c ≡ 2 → causeValues c ≡ n ∷ [] → getD pullerNamed n none ≡ some (causeName c)
-unfolding causeNumber causeValues causeName
+unfolding causeNumber causeValues pullerErrors pullerName causeName
 puller-is (cause.Pusher e) n k v = absurd (omega arith)
-puller-is (cause.Puller e) n k v = let same : puller.number e ≡ n = at 0 v in rw (← same) (puller-named e)
+puller-is (cause.Puller e) n k v =
+    let same : puller.number e ≡ n = at 0 v in
+    rw (← same) (some-at ("" ∷ pullerErrors) (puller.number e) (within pullerList (puller.number e) e (puller-numbered e)))
 
 -- a number that the table doesn't have
 no-refusal : (n : ℕ) → (n ≡ 0) ⊎ (13 < n) → refusalName n ≡ ""
@@ -91,8 +62,8 @@ unfolding refusals refusalName
 no-refusal n h = ⊎-elim (λ z. rw z) (λ past. List·getD-eq-default ("" ∷ refusals) "" past) h
 
 pub names : Names
-unfolding refusals refusalName
-names = record { kinds = kind-named; pusher = pusher-is; puller = puller-is; refusals = refl; none-else = no-refusal }
+unfolding kinds kindName refusals refusalName
+names = record { kinds = λ k. some-at ("" ∷ kinds) (number k) (within kindList (number k) k (kind-numbered k)); pusher = pusher-is; puller = puller-is; refusals = refl; none-else = no-refusal }
 
 -- the ends' words with the labels beside them
 idle-words : (more : List ℕ) → text "end=idle steps=" ++ more ≡ text "end=" ++ (text "idle" ++ (text " steps=" ++ more))

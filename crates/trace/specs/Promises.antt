@@ -205,20 +205,23 @@ pub record Texts : Type 0 where
   pub character : (c : Char) (s : String) → text (c and s) ≡ code c ∷ text s
   pub number : (n : ℕ) → n < 2 ^ 64 → Decimal n (decimal n)
 
--- The names of kinds and errors, in the paper's lists, each at the number of what it names: "`kind` is command, count, bind, ref, event,
--- dma, offset, acquire, release, wait, forward or error, in the library also entry, discard, idle and stopped"
+-- The names of kinds and errors, in the paper's lists, each at the number of what it names, from 1; 0 has the empty name. "`kind` is
+-- command, count, bind, ref, event, dma, offset, acquire, release, wait, forward or error, in the library also entry, discard, idle and
+-- stopped"
 abbrev pub kindsNamed : List (Option String)
-kindsNamed = none ∷ some "command" ∷ some "count" ∷ some "bind" ∷ some "ref" ∷ some "event" ∷ some "dma" ∷ some "offset" ∷ some "acquire" ∷ some "release" ∷ some "wait" ∷ some "forward" ∷ some "error" ∷ some "entry" ∷ some "discard" ∷ some "idle" ∷ some "stopped" ∷ []
+kindsNamed =
+    map some
+    ("" ∷ "command" ∷ "count" ∷ "bind" ∷ "ref" ∷ "event" ∷ "dma" ∷ "offset" ∷ "acquire" ∷ "release" ∷ "wait" ∷ "forward" ∷ "error" ∷ "entry" ∷ "discard" ∷ "idle" ∷ "stopped" ∷ [])
 
 -- "Pusher errors: 1 CALL, 2 NON_CACHE, 3 RETURN, 4 RESERVED_CMD, 5 IB, 6 PROTECTION"
 abbrev pub pusherNamed : List (Option String)
-pusherNamed = some "" ∷ some "CALL" ∷ some "NON_CACHE" ∷ some "RETURN" ∷ some "RESERVED_CMD" ∷ some "IB" ∷ some "PROTECTION" ∷ []
+pusherNamed = map some ("" ∷ "CALL" ∷ "NON_CACHE" ∷ "RETURN" ∷ "RESERVED_CMD" ∷ "IB" ∷ "PROTECTION" ∷ [])
 
 -- "CACHE_ERROR NO_HASH", "EMPTY_SUBCHANNEL", "SEMAPHORE 1" to 4; "as NON_CACHE or SEMAPHORE_2"
 abbrev pub pullerNamed : List (Option String)
-pullerNamed = some "" ∷ some "NO_HASH" ∷ some "EMPTY_SUBCHANNEL" ∷ some "SEMAPHORE_1" ∷ some "SEMAPHORE_2" ∷ some "SEMAPHORE_3" ∷ some "SEMAPHORE_4" ∷ []
+pullerNamed = map some ("" ∷ "NO_HASH" ∷ "EMPTY_SUBCHANNEL" ∷ "SEMAPHORE_1" ∷ "SEMAPHORE_2" ∷ "SEMAPHORE_3" ∷ "SEMAPHORE_4" ∷ [])
 
--- No kind and no error is left out; 0, no error, has the empty name. Of the refusals' numbers, 0 and those past the list have it.
+-- No kind and no error is left out. Of the refusals' numbers, 0 and those past the list have the empty name.
 pub record Names : Type 0 where
   pub kinds : (k : Kind) → getD kindsNamed (number k) none ≡ some (kindName k)
   pub pusher : (c : Cause) (n : ℕ) → causeNumber c ≡ 1 → causeValues c ≡ n ∷ [] → getD pusherNamed n none ≡ some (causeName c)
