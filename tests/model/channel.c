@@ -7,25 +7,26 @@ static bool is_ib(const struct channel *channel)
     return channel->setup.setting.mode == MODE_IB;
 }
 
-/* "Opening: 1, 2, 3, 4": ORDER may come after SLI here, as IB mode that isn't refused is above level 3. */
+/* R25, R34: the refusals of a set-up. ORDER may come after SLI here, as IB mode that isn't refused is above
+ * level 3. */
 static uint32_t setup_refusal(const struct setup *setup)
 {
     uint32_t refusal = model_setting_refusal(setup->setting);
 
-    /* "IB mode and ib_order above 12" */
+    /* R3: too large a ring. */
     if (refusal == REFUSAL_NONE && setup->setting.mode == MODE_IB && setup->ib_order > ORDER_LIMIT)
         return REFUSAL_ORDER;
     return refusal;
 }
 
-/* "object table not a multiple of 4 words, or over 4,096 words" */
+/* R5: an entry that isn't whole, or too many. */
 static bool is_table_refused(size_t count)
 {
     return count % ENTRY_WORDS != 0 || count > TABLE_LIMIT;
 }
 
-/* "read, put and dma_mget 32 bits in NV04-style, 40 in IB", "a read, put or return address not a multiple of
- * 4"; the return address has 32 bits anyway. */
+/* R32, R33: addresses within the width that the mode gives them, three of them multiples of 4. The return
+ * address has 32 bits anyway. */
 static bool addresses_fit(const struct channel *channel)
 {
     uint64_t limit = UINT64_C(1) << (is_ib(channel) ? 40 : 32);
@@ -34,8 +35,8 @@ static bool addresses_fit(const struct channel *channel)
            channel->get % 4 == 0 && channel->put % 4 == 0 && channel->return_address % 4 == 0;
 }
 
-/* "ib_get and ib_put below 2^ib_order [...]. In NV04-style ib_order is held as 0". To be asked of a set-up
- * that isn't refused, as the order is at most 12 then. */
+/* R32, R34: indices within the ring, and no ring in NV04-style. To be asked of a set-up that isn't refused,
+ * as the order is at most 12 then. */
 static bool indices_fit(const struct channel *channel)
 {
     uint32_t order = channel->setup.ib_order;
@@ -45,7 +46,7 @@ static bool indices_fit(const struct channel *channel)
     return channel->ib_get < UINT32_C(1) << order && channel->ib_put < UINT32_C(1) << order;
 }
 
-/* "count 24 bits, SLI mask 12, method number 11, engine 5, subchannel 3" */
+/* R32: the widths that are the same in both modes. */
 static bool numbers_fit(const struct channel *channel)
 {
     for (unsigned i = 0; i < SUBCHANNELS; i++)
@@ -55,8 +56,7 @@ static bool numbers_fit(const struct channel *channel)
            channel->last_engine < 1 << 5 && channel->subchannel < 1 << 3;
 }
 
-/* What STATE refuses: "channel with a field outside its width, a read, put or return address not a multiple
- * of 4, or a combination that 1 to 4 refuse". */
+/* R13, R32, R33, R34: what STATE asks of a record, and nothing else. */
 static bool is_well_formed(const struct channel *channel)
 {
     return setup_refusal(&channel->setup) == REFUSAL_NONE && addresses_fit(channel) &&
@@ -65,7 +65,7 @@ static bool is_well_formed(const struct channel *channel)
 
 /* ---- Opening and put ---- */
 
-/* "the lowest entry that repeats an earlier one", or the count of entries where none does. */
+/* R6: the lowest entry whose handle stands before it, or the count of entries where there is none. */
 static size_t first_repeat(const uint32_t *table, size_t entries)
 {
     for (size_t later = 1; later < entries; later++)
@@ -75,7 +75,7 @@ static size_t first_repeat(const uint32_t *table, size_t entries)
     return entries;
 }
 
-/* "Opening: 1, 2, 3, 4, 10 (SLI mask above 4,095), 5, 6." */
+/* R21, R25: the order of opening. */
 static struct opened opening_answer(const struct setup *setup, const uint32_t *table, size_t count)
 {
     uint32_t refusal = setup_refusal(setup);
@@ -84,47 +84,49 @@ static struct opened opening_answer(const struct setup *setup, const uint32_t *t
 
     if (refusal != REFUSAL_NONE)
         return (struct opened){refusal, 0};
+    /* R10: the mask is asked for, SLI on or off. */
     if (setup->sli_mask > 4095)
         return (struct opened){REFUSAL_FIELD, 0};
     if (is_table_refused(count))
         return (struct opened){REFUSAL_TABLE, 0};
-    /* "one handle in two entries" */
+    /* R6: a handle that isn't the first of its kind. */
     repeat = first_repeat(table, entries);
     if (repeat < entries)
         return (struct opened){REFUSAL_DUPLICATE, (uint32_t)repeat};
     return (struct opened){REFUSAL_NONE, 0};
 }
 
+/* R30, S1: opening, refused or not. */
 struct opened model_open(struct channel *channel, struct setup setup, const uint32_t *table, size_t count)
 {
     struct opened opened = opening_answer(&setup, table, count);
 
-    /* "A refused opening yields the blank channel (level 0, NV04-style, all else 0)" */
+    /* R30: the blank channel is 0 throughout. */
     *channel = (struct channel){0};
     if (opened.refusal != REFUSAL_NONE)
         return opened;
-    /* "A fresh channel has every address, count and binding 0, no subroutine, and sli_active set" */
+    /* S1: what a fresh channel has that isn't 0. */
     channel->setup = setup;
     channel->sli_active = true;
-    /* "In NV04-style ib_order is held as 0" */
+    /* S1: any order may be given where there is no ring, and none is held. */
     if (!is_ib(channel))
         channel->setup.ib_order = 0;
     return opened;
 }
 
-/* "Setting put: 13, 7." It "may be set on a stopped channel; it stays stopped". */
+/* R26, R31, S2: setting put, whether or not the channel is stopped. */
 uint32_t model_set_put(struct channel *channel, uint32_t put)
 {
     if (!is_well_formed(channel))
         return REFUSAL_STATE;
     if (is_ib(channel)) {
-        /* "IB: not below 2^ib_order" */
+        /* R7: a place that the ring doesn't have. */
         if (put >= UINT32_C(1) << channel->setup.ib_order)
             return REFUSAL_PUT;
         channel->ib_put = put;
         return REFUSAL_NONE;
     }
-    /* "NV04-style: not a multiple of 4" */
+    /* R7: no word's address. */
     if (put % 4 != 0)
         return REFUSAL_PUT;
     channel->put = put;
@@ -133,18 +135,20 @@ uint32_t model_set_put(struct channel *channel, uint32_t put)
 
 /* ---- Answers ---- */
 
-/* A kind without fields. */
+/* S29: a kind without fields. */
 static struct answer plain(uint32_t kind)
 {
     return (struct answer){.kind = kind};
 }
 
+/* S27: what an error of the pusher comes to. */
 static struct answer stop_pusher(struct channel *channel, uint32_t error)
 {
     channel->pusher_error = error;
     return plain(KIND_ERROR);
 }
 
+/* P20, P21: what an error of the puller comes to; whoever raises it has changed nothing else, but for P5. */
 static struct answer stop_puller(struct channel *channel, uint32_t error)
 {
     channel->puller_error = error;
@@ -158,7 +162,7 @@ struct method {
     uint32_t parameter;
 };
 
-/* A method taken or discarded, with the parameter that is handed on. */
+/* S29, P22: a method taken or discarded, with the parameter that is handed on. */
 static struct answer taken(uint32_t kind, struct method method, uint32_t parameter)
 {
     return (struct answer){REFUSAL_NONE, kind, true, method.subchannel, method.number, parameter};
@@ -166,11 +170,10 @@ static struct answer taken(uint32_t kind, struct method method, uint32_t paramet
 
 /* ---- The puller ---- */
 
-/* "Object entry, four words: handle; engine (bits 4-0); address; class (bits 15-0), write-only (bit 16),
- * page table present (bit 17)." */
+/* P1: the words of an entry. */
 enum { OBJECT_HANDLE, OBJECT_ENGINE, OBJECT_ADDRESS, OBJECT_CLASS };
 
-/* "Lookup takes the lowest matching entry"; NULL where there is none. */
+/* P2: the lowest entry with a handle; NULL where there is none. */
 static const uint32_t *lookup(const struct lent *lent, uint32_t handle)
 {
     for (size_t i = 0; i < lent->table_count; i += ENTRY_WORDS)
@@ -179,7 +182,7 @@ static const uint32_t *lookup(const struct lent *lent, uint32_t handle)
     return NULL;
 }
 
-/* "0x00: lookup, bind the engine." */
+/* P4: 0x00 binds. */
 static struct answer pull_bind(struct channel *channel, const struct lent *lent, struct method method)
 {
     const uint32_t *object = lookup(lent, method.parameter);
@@ -187,23 +190,24 @@ static struct answer pull_bind(struct channel *channel, const struct lent *lent,
 
     if (object == NULL)
         return stop_puller(channel, PULLER_NO_HASH);
+    /* P1: the engine is in bits 4-0. */
     engine = object[OBJECT_ENGINE] & 0x1f;
     channel->engines[method.subchannel] = engine;
-    /* "Engine 0 is SOFTWARE: the binding is stored, then EMPTY_SUBCHANNEL" */
+    /* P5: engine 0 is bound by now, and only then comes the error. */
     if (engine == 0)
         return stop_puller(channel, PULLER_EMPTY_SUBCHANNEL);
-    /* "Otherwise forward method 0 with the object address and make it the last engine." */
+    /* P4, P22: the object's address is handed on. */
     channel->last_engine = engine;
     return taken(KIND_BIND, method, object[OBJECT_ADDRESS]);
 }
 
-/* "0x100 up" */
+/* P18: 0x100 and up go to the engine. */
 static struct answer pull_forward(struct channel *channel, const struct lent *lent, struct method method)
 {
     uint32_t engine = channel->engines[method.subchannel];
     uint32_t parameter = method.parameter;
 
-    /* "for 0x180 to 0x1fc the parameter becomes the looked-up address first" */
+    /* P19: these are looked up, before the engine is asked for. */
     if (method.number >= 0x180 && method.number <= 0x1fc) {
         const uint32_t *object = lookup(lent, parameter);
 
@@ -211,7 +215,7 @@ static struct answer pull_forward(struct channel *channel, const struct lent *le
             return stop_puller(channel, PULLER_NO_HASH);
         parameter = object[OBJECT_ADDRESS];
     }
-    /* "Engine 0: EMPTY_SUBCHANNEL. Else forward, and the engine becomes last." */
+    /* P18: nothing is bound here, or the engine is the last from now on. */
     if (engine == 0)
         return stop_puller(channel, PULLER_EMPTY_SUBCHANNEL);
     channel->last_engine = engine;
@@ -224,33 +228,33 @@ static bool is_before_nv50(const struct channel *channel)
     return channel->setup.setting.level < 4;
 }
 
-/* "0x60: lookup." */
+/* P9, P10: 0x60 names the semaphore's object. */
 static struct answer pull_dma(struct channel *channel, const struct lent *lent, struct method method)
 {
     const uint32_t *object = lookup(lent, method.parameter);
 
     if (object == NULL)
         return stop_puller(channel, PULLER_NO_HASH);
-    /* "Below level 4, class not 2, not write-only or page table absent: SEMAPHORE 1." */
+    /* P1, P9: below level 4, class 2 with both flags; bits above them are not looked at. */
     if (is_before_nv50(channel) && (object[OBJECT_CLASS] & 0x3ffff) != 0x30002)
         return stop_puller(channel, PULLER_SEMAPHORE_1);
     channel->dma_semaphore = object[OBJECT_ADDRESS];
     return taken(KIND_DMA, method, object[OBJECT_ADDRESS]);
 }
 
-/* "0x64" */
+/* P11, P12: 0x64 gives the semaphore's offset. */
 static struct answer pull_offset(struct channel *channel, struct method method)
 {
     uint32_t offset = method.parameter;
 
     if (is_before_nv50(channel)) {
-        /* "below level 4, any bit outside 0xffc: SEMAPHORE 1" */
+        /* P11: bits 11-2 alone, and the valid flag stays. */
         if ((offset & ~UINT32_C(0xffc)) != 0)
             return stop_puller(channel, PULLER_SEMAPHORE_1);
         channel->semaphore_offset = offset;
         return taken(KIND_OFFSET, method, offset);
     }
-    /* "From 4: low two bits, SEMAPHORE 1; then bits 31-16, SEMAPHORE 3; stored and valid." */
+    /* P12: the low bits are tried before the high ones. */
     if (offset % 4 != 0)
         return stop_puller(channel, PULLER_SEMAPHORE_1);
     if (offset > 0xffff)
@@ -260,7 +264,7 @@ static struct answer pull_offset(struct channel *channel, struct method method)
     return taken(KIND_OFFSET, method, offset);
 }
 
-/* "The word is at offset/4, rounded down, of the semaphore memory whatever the object"; NULL past it. */
+/* P14: the semaphore word that the offset names; NULL where it isn't lent. */
 static uint32_t *semaphore_word(const struct channel *channel, const struct lent *lent)
 {
     uint32_t place = channel->semaphore_offset / 4;
@@ -268,19 +272,19 @@ static uint32_t *semaphore_word(const struct channel *channel, const struct lent
     return place < lent->semaphore_count ? lent->semaphores + place : NULL;
 }
 
-/* "Past its end: SEMAPHORE 2 below level 4, 4 from there." */
+/* P14: where that word isn't lent. */
 static struct answer stop_past_end(struct channel *channel)
 {
     return stop_puller(channel, is_before_nv50(channel) ? PULLER_SEMAPHORE_2 : PULLER_SEMAPHORE_4);
 }
 
-/* "below level 4 unbound, from 4 offset not valid: SEMAPHORE 2" */
+/* P10, P13: whether there is an object, or from level 4 on an offset. */
 static bool is_semaphore_set(const struct channel *channel)
 {
     return is_before_nv50(channel) ? channel->dma_semaphore != 0 : channel->offset_valid;
 }
 
-/* "0x68 acquire" */
+/* P13, P14, P15: 0x68 acquires. Whether the semaphore is set is asked first. */
 static struct answer pull_acquire(struct channel *channel, const struct lent *lent, struct method method)
 {
     const uint32_t *word = semaphore_word(channel, lent);
@@ -289,7 +293,7 @@ static struct answer pull_acquire(struct channel *channel, const struct lent *le
         return stop_puller(channel, PULLER_SEMAPHORE_2);
     if (word == NULL)
         return stop_past_end(channel);
-    /* "Acquire goes on when equal, else is active and waits, its value stored." */
+    /* P15: nothing is stored where the value is found. */
     if (*word == method.parameter)
         return taken(KIND_ACQUIRE, method, method.parameter);
     channel->acquire_active = true;
@@ -297,7 +301,7 @@ static struct answer pull_acquire(struct channel *channel, const struct lent *le
     return taken(KIND_WAIT, method, method.parameter);
 }
 
-/* "0x6c release" */
+/* P13, P14, P17: 0x6c releases. Whether the semaphore is set is asked first. */
 static struct answer pull_release(struct channel *channel, const struct lent *lent, struct method method)
 {
     uint32_t *word = semaphore_word(channel, lent);
@@ -306,12 +310,12 @@ static struct answer pull_release(struct channel *channel, const struct lent *le
         return stop_puller(channel, PULLER_SEMAPHORE_2);
     if (word == NULL)
         return stop_past_end(channel);
-    /* "Release writes that word only." */
+    /* P17: the one word that a step writes. */
     *word = method.parameter;
     return taken(KIND_RELEASE, method, method.parameter);
 }
 
-/* The puller takes a method that the level has. */
+/* P3: the puller takes a method that the level has. */
 static struct answer pull(struct channel *channel, const struct lent *lent, struct method method)
 {
     if (method.number >= 0x100)
@@ -320,7 +324,7 @@ static struct answer pull(struct channel *channel, const struct lent *lent, stru
     case 0x00:
         return pull_bind(channel, lent, method);
     case 0x50:
-        /* "ref takes the parameter" */
+        /* P6: the reference counter. */
         channel->ref = method.parameter;
         return taken(KIND_REF, method, method.parameter);
     case 0x60:
@@ -332,13 +336,13 @@ static struct answer pull(struct channel *channel, const struct lent *lent, stru
     case 0x6c:
         return pull_release(channel, lent, method);
     default:
-        /* "0x80 and 0x10 to 0x24: an event, no effect": no level has others. */
+        /* P7, P8, P24: an event for 0x80 and 0x10 to 0x24; no level has others. */
         return taken(KIND_EVENT, method, method.parameter);
     }
 }
 
-/* "A retry makes only the end test and the comparison; equal clears active." It has no fields, and at an
- * error it "stays active". */
+/* S5, P16, P21: a retry asks for the word and its value alone. It has no fields, and at an error the acquire
+ * is still active. */
 static struct answer retry(struct channel *channel, const struct lent *lent)
 {
     const uint32_t *word = semaphore_word(channel, lent);
@@ -353,9 +357,8 @@ static struct answer retry(struct channel *channel, const struct lent *lent)
 
 /* ---- The pusher ---- */
 
-/* "the read address rises by 4 first"; a word that can be read lies below 2^22, so that no width ends there.
- * "When NOT_MAIN is clear, [...] each advance copies the read address to it and sets its valid flag.
- * NV04-style leaves it." */
+/* S11, S12: the advance, with dma_mget in its train where NOT_MAIN is clear. A word that can be read lies
+ * below 2^22, so that no width ends there. */
 static void advance(struct channel *channel)
 {
     channel->get += 4;
@@ -365,7 +368,7 @@ static void advance(struct channel *channel)
     }
 }
 
-/* "the low 24 bits of the next word are the count" */
+/* S15: the count of a long form. */
 static struct answer take_count(struct channel *channel, uint32_t word)
 {
     channel->count = word & 0x00ffffff;
@@ -373,27 +376,26 @@ static struct answer take_count(struct channel *channel, uint32_t word)
     return plain(KIND_COUNT);
 }
 
-/* "Each parameter submits its method; an increasing method then rises by one modulo 2,048." */
+/* S24, S25: a parameter. */
 static struct answer take_parameter(struct channel *channel, const struct lent *lent, uint32_t word)
 {
     const struct setting *setting = &channel->setup.setting;
     struct method method = {channel->subchannel, 4 * channel->method, word};
 
-    /* "A method below 0x100 that the level lacks is NON_CACHE, tested before SLI discard"; it leaves "all
-     * else as before", count and method too. */
+    /* S24, S28: tried before SLI; count and method stay. */
     if (!model_present(setting->level, channel->method))
         return stop_pusher(channel, PUSHER_NON_CACHE);
+    /* S25, P21: whatever becomes of it from here on. */
     channel->count--;
     if (channel->increasing)
         channel->method = (channel->method + 1) % 2048;
-    /* "If SLI is enabled and not active, the method is discarded; else the puller takes it in the same
-     * step." */
+    /* S24, P22: discarded with the word as it was read, or taken at once. */
     if (setting->sli && !channel->sli_active)
         return taken(KIND_DISCARD, method, word);
     return pull(channel, lent, method);
 }
 
-/* The command under way becomes this one; the method is given by its byte number. */
+/* S16, S18: the command under way becomes this one; the method is given by its byte number. */
 static struct answer take_methods(struct channel *channel, uint32_t count, uint32_t subchannel,
                                   uint32_t method, bool increasing)
 {
@@ -404,9 +406,7 @@ static struct answer take_methods(struct channel *channel, uint32_t count, uint3
     return plain(KIND_COMMAND);
 }
 
-/* Document 004: "The call command copies dma_get to subr_return, sets subr_active to 1, and sets dma_get to
- * the target. If subr_active is already set before the call, the DMA_PUSHER error of type CALL is
- * raised." */
+/* S21, S28: a call, which is an error inside a subroutine. */
 static struct answer take_call(struct channel *channel, uint32_t target)
 {
     if (channel->subroutine)
@@ -417,8 +417,7 @@ static struct answer take_call(struct channel *channel, uint32_t target)
     return plain(KIND_COMMAND);
 }
 
-/* Document 004: "The return command copies subr_return to dma_get and clears subr_active. If subr_active
- * isn't set, it instead raises DMA_PUSHER error of type RETURN." */
+/* S22, S28: a return, which is an error outside of one. */
 static struct answer take_return(struct channel *channel)
 {
     if (!channel->subroutine)
@@ -428,6 +427,7 @@ static struct answer take_return(struct channel *channel)
     return plain(KIND_COMMAND);
 }
 
+/* S13, S16, S17, S18, S19, S20, S21, S22, S23: a command, each form in its own way. */
 static struct answer take_command(struct channel *channel, uint32_t word)
 {
     struct reading command = model_read(channel->setup.setting, word, 0);
@@ -436,20 +436,21 @@ static struct answer take_command(struct channel *channel, uint32_t word)
     switch (command.number) {
     case READING_INCREASING:
     case READING_NON_INCREASING:
-        /* "A command with count 0 does nothing." */
+        /* S17: the command under way stays what it was. */
         if (value[0] == 0)
             return plain(KIND_COMMAND);
         return take_methods(channel, value[0], value[1], value[2], command.number == READING_INCREASING);
     case READING_SLI:
-        /* "sets sli_active exactly if its mask and the channel's share a set bit, else clears it" */
+        /* S19: set or clear, by the bits that both masks have. */
         channel->sli_active = (value[0] & channel->setup.sli_mask) != 0;
         return plain(KIND_COMMAND);
     case READING_LONG:
+        /* S18: the count is 0 here anyway, since this word was read as a command. */
         channel->count_awaited = true;
         return take_methods(channel, 0, value[0], value[1], false);
     case READING_OLD_JUMP:
     case READING_JUMP:
-        /* Document 004: "The jump commands simply set dma_get to the target". */
+        /* S20: on at the target. */
         channel->get = value[0];
         return plain(KIND_COMMAND);
     case READING_CALL:
@@ -457,23 +458,23 @@ static struct answer take_command(struct channel *channel, uint32_t word)
     case READING_RETURN:
         return take_return(channel);
     default:
+        /* S23, S28: the advance is all that is left of it. */
         return stop_pusher(channel, PUSHER_RESERVED_CMD);
     }
 }
 
+/* S6, S9: the word at the read address. */
 static struct answer read_word(struct channel *channel, const struct lent *lent)
 {
     uint64_t get = channel->get;
     uint32_t word;
 
-    /* "A word at address g faults with PROTECTION if g is above dma_limit, in either mode, or beyond the
-     * lent words; g stays." */
+    /* S10, S28: past the limit or the lent words nothing moves. */
     if (get > channel->setup.dma_limit || get / 4 >= lent->word_count)
         return stop_pusher(channel, PUSHER_PROTECTION);
     word = lent->words[get / 4];
     advance(channel);
-    /* "The word is the count if a long form waits for one, else a parameter while the count isn't used up,
-     * else a command." */
+    /* S14: what the word is, only the turn says. */
     if (channel->count_awaited)
         return take_count(channel, word);
     if (channel->count != 0)
@@ -481,40 +482,40 @@ static struct answer read_word(struct channel *channel, const struct lent *lent)
     return take_command(channel, word);
 }
 
-/* "IB entry (64 bits): address bits 39-2, NOT_MAIN bit 41, size in words bits 63-42; bits 0, 1, 40
- * ignored." */
+/* S7, E1: an entry, by its bits 39-2, 41 and 63-42. */
 static struct answer read_entry(struct channel *channel, const struct lent *lent)
 {
     uint64_t entry, address, size;
 
-    /* "An index past the lent entries is PROTECTION and ib_get stays." */
+    /* E2, S28: an index past the lent entries. */
     if (channel->ib_get >= lent->entry_count)
         return stop_pusher(channel, PUSHER_PROTECTION);
     entry = lent->entries[channel->ib_get];
     address = entry & UINT64_C(0xfffffffffc);
     size = entry >> 42;
-    /* "ib_get rises by 1 modulo 2^ib_order. Size 0: error IB after that rise, nothing else changes." */
+    /* E3, E4, S28: an entry without words is passed all the same. */
     channel->ib_get = (channel->ib_get + 1) & ((UINT32_C(1) << channel->setup.ib_order) - 1);
     if (size == 0)
         return stop_pusher(channel, PUSHER_IB);
     channel->get = address;
-    /* "Put is address plus 4 times size modulo 2^40." */
+    /* E5: 40 bits hold put. */
     channel->put = (address + 4 * size) & UINT64_C(0xffffffffff);
     channel->not_main = (entry >> 41 & 1) != 0;
-    /* "When NOT_MAIN is clear, dma_mget takes the address"; the valid flag waits for an advance. */
+    /* E6: the valid flag waits for an advance. */
     if (!channel->not_main)
         channel->dma_mget = address;
+    /* E7: no word was read yet. */
     return plain(KIND_ENTRY);
 }
 
 /* ---- The step ---- */
 
-/* "Step: 13, 8, 5." */
+/* R21, R27: the order of a step. */
 static uint32_t step_refusal(const struct channel *channel, const struct lent *lent)
 {
     if (!is_well_formed(channel))
         return REFUSAL_STATE;
-    /* "pushbuffer or semaphore memory over 1,048,576 words" */
+    /* R8: too many words of either. */
     if (lent->word_count > SIZE_LIMIT || lent->semaphore_count > SIZE_LIMIT)
         return REFUSAL_SIZE;
     if (is_table_refused(lent->table_count))
@@ -522,13 +523,14 @@ static uint32_t step_refusal(const struct channel *channel, const struct lent *l
     return REFUSAL_NONE;
 }
 
+/* R31, S3: one step. */
 struct answer model_step(struct channel *channel, const struct lent *lent)
 {
     uint32_t refusal = step_refusal(channel, lent);
 
     if (refusal != REFUSAL_NONE)
         return (struct answer){.refusal = refusal};
-    /* "A step does the first of these that applies." */
+    /* S4, S5, S6, S7, S8: the first that applies. */
     if (channel->pusher_error != 0 || channel->puller_error != 0)
         return plain(KIND_STOPPED);
     if (channel->acquire_active)

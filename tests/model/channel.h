@@ -1,10 +1,11 @@
-/* A model of the command channel, written from the paper alone: opening it, setting put, and one step. */
+/* A model of the command channel, written from the rules of docs/CARD.md alone, never from the code: opening
+ * it, setting put, and one step. */
 #ifndef MODEL_CHANNEL_H
 #define MODEL_CHANNEL_H
 
 #include "word.h"
 
-/* "Pusher errors: 1 CALL, 2 NON_CACHE, 3 RETURN, 4 RESERVED_CMD, 5 IB, 6 PROTECTION." 0 stands for none. */
+/* S26: the pusher's errors by their numbers; 0 stands for none. */
 enum {
     PUSHER_CALL = 1,
     PUSHER_NON_CACHE = 2,
@@ -14,7 +15,7 @@ enum {
     PUSHER_PROTECTION = 6
 };
 
-/* The puller's errors, to which the paper gives names alone. 0 stands for none. */
+/* P23: the puller's errors by their numbers; 0 stands for none. */
 enum {
     PULLER_NO_HASH = 1,
     PULLER_EMPTY_SUBCHANNEL = 2,
@@ -24,7 +25,7 @@ enum {
     PULLER_SEMAPHORE_4 = 6
 };
 
-/* What a step did. The last is KIND_LAST: a further kind stands behind it, and moves it. */
+/* S30: what a step did. The last is KIND_LAST: a further kind stands behind it, and moves it. */
 enum {
     KIND_COMMAND = 1,
     KIND_COUNT = 2,
@@ -45,7 +46,8 @@ enum {
     KIND_LAST = KIND_STOPPED
 };
 
-/* "object table [...] over 4,096 words", four words an entry; "ib_order above 12"; eight subchannels. */
+/* R3, R5, P1: the most words of an object table, those of an entry, the largest ib_order; eight
+ * subchannels. */
 enum { TABLE_LIMIT = 4096, ENTRY_WORDS = 4, ORDER_LIMIT = 12, SUBCHANNELS = 8 };
 
 /* What is settled at opening. */
@@ -78,7 +80,7 @@ struct channel {
     bool sli_active;
     uint32_t pusher_error;
 
-    /* The puller. A semaphore object at address 0 "counts as unbound". */
+    /* P10: the puller, in which a semaphore object at address 0 is none. */
     uint32_t engines[SUBCHANNELS];
     uint32_t last_engine;
     uint32_t ref;
@@ -102,14 +104,14 @@ struct lent {
     size_t semaphore_count;
 };
 
-/* The answer of opening: a refusal, and for DUPLICATE "the lowest entry that repeats an earlier one". */
+/* R6: the answer of opening, a refusal, and for DUPLICATE the entry. */
 struct opened {
     uint32_t refusal;
     uint32_t entry;
 };
 
-/* The answer of a step: a refusal, or a kind. "only methods taken or discarded have further fields"; the
- * method is a byte number, the parameter "as handed on, after any lookup". */
+/* S29, P22: the answer of a step, a refusal or a kind, with the fields of a method where there is one. The
+ * method is a byte number, the parameter the one that is handed on. */
 struct answer {
     uint32_t refusal;
     uint32_t kind;

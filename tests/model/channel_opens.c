@@ -9,6 +9,7 @@ struct opening {
     uint32_t table_count;
 };
 
+/* R30, S1: one question, with the channel that opening leaves. */
 static void put_open(struct vectors *vectors, const struct opening *opening)
 {
     static uint32_t pool[TABLE_POOL];
@@ -45,7 +46,8 @@ enum {
 };
 enum { SETS = 128 };
 
-/* Level, mode and SLI setting. A level that is too high can't be below 3 as well; then SLI is no fault. */
+/* R1, R2, R4: level, mode and SLI setting. A level that is too high can't be below 3 as well; then SLI is no
+ * fault. */
 static struct setting draw_bad_setting(struct draw *draw, unsigned set)
 {
     static const uint32_t levels[] = {6, 7, 255, 256, 257, 260, 261, 65536 + 4, UINT32_MAX};
@@ -57,7 +59,7 @@ static struct setting draw_bad_setting(struct draw *draw, unsigned set)
         setting = (struct setting){4 + draw_below(draw, 2), MODE_IB, setting.sli};
     if (set & BAD_SLI)
         setting = (struct setting){draw_below(draw, 3), set & BAD_ORDER ? MODE_IB : MODE_NV04, true};
-    /* "mode above 1, or IB below level 4" */
+    /* R2: one of its two ways. */
     if ((set & BAD_MODE) != 0 && is_low)
         setting = (struct setting){draw_below(draw, 4), MODE_IB, (set & BAD_SLI) != 0};
     else if (set & BAD_MODE)
@@ -67,13 +69,14 @@ static struct setting draw_bad_setting(struct draw *draw, unsigned set)
     return setting;
 }
 
+/* R3, R10, S1: the numbers of a set-up besides. */
 static struct setup draw_setup(struct draw *draw, unsigned set)
 {
     static const uint32_t orders[] = {13, 14, 32, 255, 256, 268, 65536, UINT32_MAX};
     static const uint32_t masks[] = {4096, 4097, 8191, 65535, 65536, 0x80000000, UINT32_MAX};
     struct setup setup = {.setting = draw_bad_setting(draw, set)};
 
-    /* NV04-style takes any. */
+    /* S1: NV04-style takes any. */
     setup.ib_order = draw_any_number(draw);
     if (setup.setting.mode == MODE_IB)
         setup.ib_order %= ORDER_LIMIT + 1;
@@ -104,7 +107,7 @@ static void draw_entries(struct draw *draw, struct opening *opening, uint32_t en
     }
 }
 
-/* Makes an entry repeat an earlier one that the record gives. Behind the words given, an entry has the
+/* R6: makes an entry repeat an earlier one that the record gives. Behind the words given, an entry has the
  * handle 0x80000000 plus its place, so that the earlier one takes it. */
 static void repeat(struct opening *opening, uint32_t earlier, uint32_t later)
 {
@@ -114,7 +117,7 @@ static void repeat(struct opening *opening, uint32_t earlier, uint32_t later)
         opening->table[ENTRY_WORDS * earlier] = 0x80000000 + ENTRY_WORDS * later;
 }
 
-/* Lengths that are refused: part entries, and more than 4,096 words. */
+/* R5: lengths that are refused, part entries and more than 4,096 words. */
 static uint32_t draw_bad_lent(struct draw *draw)
 {
     static const uint32_t lents[] = {1, 2, 3, 5, 6, 7, 9, 4093, 4095, 4097, 4098, 4099, 4100, 4101, 4104};
@@ -137,7 +140,7 @@ static struct opening draw_opening(struct draw *draw, unsigned set)
     return opening;
 }
 
-/* One entry repeats an earlier one, near or far. The lent table ends behind it, with it or before it. */
+/* R6: one entry repeats an earlier one, near or far. The lent table ends behind it, with it or before it. */
 static void put_open_repeat(struct vectors *vectors, uint32_t later)
 {
     struct draw *draw = &vectors->draw;
@@ -154,8 +157,8 @@ static void put_open_repeat(struct vectors *vectors, uint32_t later)
     }
 }
 
-/* Several repeats: pairs that lie within each other, cross or share an entry. The lowest entry that repeats
- * an earlier one is not always the one that repeats the lowest. */
+/* R6: several repeats, pairs that lie within each other, cross or share an entry. The one to be told is not
+ * always the one that repeats the lowest. */
 static void put_open_repeats(struct vectors *vectors)
 {
     struct draw *draw = &vectors->draw;
@@ -173,7 +176,7 @@ static void put_open_repeats(struct vectors *vectors)
     put_open(vectors, &opening);
 }
 
-/* Every length at issue, the table given only in part. */
+/* R5: every length at issue, the table given only in part. */
 static void put_open_lents(struct vectors *vectors)
 {
     static const uint32_t lents[] = {0,  1,    2,    3,    4,    5,    8,    60,   62,   63,   64,   65,
@@ -189,7 +192,8 @@ static void put_open_lents(struct vectors *vectors)
         }
 }
 
-/* Every level, mode and SLI setting around the limits, with orders and masks at theirs. */
+/* R1, R2, R3, R4, R10, R25: every level, mode and SLI setting around the limits, with orders and masks at
+ * theirs. */
 static void put_open_grid(struct vectors *vectors)
 {
     static const uint32_t orders[] = {0, 12, 13};
@@ -205,7 +209,8 @@ static void put_open_grid(struct vectors *vectors)
     }
 }
 
-/* What isn't refused: every order in IB mode, any in NV04-style; tables that end within the words given. */
+/* S1: what isn't refused, every order in IB mode, any in NV04-style; tables that end within the words
+ * given. */
 static void put_open_good(struct vectors *vectors)
 {
     for (uint32_t i = 0; i < 270; i++) {
@@ -217,6 +222,7 @@ static void put_open_good(struct vectors *vectors)
     }
 }
 
+/* R21, R25: openings with every set of faults, and each fault by itself. */
 void put_opens(struct vectors *vectors)
 {
     static const uint32_t laters[] = {1, 2, 3, 4, 5, 14, 15, 16, 17, 31, 255, 256, 511, 1000, 1022, 1023};

@@ -94,7 +94,7 @@ static struct lens just_enough(const struct run *run, uint32_t short_by)
     return lens;
 }
 
-/* What the end of a run lacks. */
+/* S10, E2, P2, P14: what the end of a run lacks. */
 static struct lens hungry(const struct run *run)
 {
     struct lens lens = all(run);
@@ -117,7 +117,8 @@ static struct lens hungry(const struct run *run)
     return lens;
 }
 
-/* Mostly all; now and then just enough, fewer semaphores or a part of the table, a part entry too. */
+/* R5, R27: mostly all; now and then just enough, fewer semaphores or a part of the table, a part entry
+ * too. */
 static struct lens draw_lens(struct run *run)
 {
     struct lens lens = all(run);
@@ -136,7 +137,8 @@ static struct lens draw_lens(struct run *run)
 
 /* ---- The host ---- */
 
-/* Another put, so that there is something to read; false where there is nothing left. */
+/* S2, S14: another put, so that there is something to read, be it in the middle of a run; false where there
+ * is nothing left. */
 static bool put_further(struct run *run)
 {
     uint32_t places = UINT32_C(1) << run->channel.setup.ib_order;
@@ -158,7 +160,7 @@ static bool put_further(struct run *run)
     return true;
 }
 
-/* A put that is refused. */
+/* R7, R31: a put that is refused. */
 static void put_wrong(struct run *run)
 {
     uint32_t more = draw_below(run->draw, 3);
@@ -167,7 +169,7 @@ static void put_wrong(struct run *run)
     run_put(run, is_ib(run) ? places + more : 4 * more + 1 + more);
 }
 
-/* Stores what an acquire waits for, half of the time; now and then anything. */
+/* P16: stores what an acquire waits for, half of the time; now and then anything. */
 static void store(struct run *run)
 {
     uint32_t place = run->channel.semaphore_offset / 4;
@@ -198,7 +200,8 @@ static void host_acts(struct run *run)
         put_further(run);
 }
 
-/* After the last step that does something: some that don't, and put, which a stopped channel takes too. */
+/* S2, S4, S8: after the last step that does something, some that don't, and put, which a stopped channel
+ * takes too. */
 static void run_out(struct run *run)
 {
     if (draw_once_in(run->draw, 3))
@@ -267,7 +270,7 @@ static struct setup draw_setup(struct draw *draw)
     return setup;
 }
 
-/* A limit at one of the last words, a byte before or behind it. */
+/* S10: a limit at one of the last words, a byte before or behind it. */
 static uint32_t draw_limit(struct draw *draw, const struct memory *memory)
 {
     uint32_t last = memory->word_count / 2 + draw_below(draw, memory->word_count / 2 + 1);
@@ -290,6 +293,8 @@ static void take_away(struct draw *draw, struct memory *memory)
         memory->semaphore_count = 0;
 }
 
+/* S3, S13, S14, S26, S30, S31, S32, P3, P23: a run of any set-up, of which the record has every step: one
+ * move of the pusher at most, the event of what was read, and all that changes. */
 static void put_any_run(struct vectors *vectors)
 {
     struct draw *draw = &vectors->draw;
@@ -306,7 +311,7 @@ static void put_any_run(struct vectors *vectors)
     put_run(vectors, &setup, &memory, 24 + draw_below(draw, MOST_STEPS - 23));
 }
 
-/* Makes an opening be refused, in one of the seven ways. */
+/* R1, R2, R3, R4, R5, R6, R10: makes an opening be refused, in one of the seven ways. */
 static void spoil(struct setup *setup, struct memory *memory, unsigned way)
 {
     switch (way) {
@@ -335,7 +340,7 @@ static void spoil(struct setup *setup, struct memory *memory, unsigned way)
     }
 }
 
-/* The blank channel: its limit lets it read the first word alone. */
+/* R30, S10: the blank channel, whose limit lets it read the first word alone. */
 static void put_blank_run(struct vectors *vectors, unsigned way)
 {
     struct draw *draw = &vectors->draw;

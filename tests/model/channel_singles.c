@@ -155,7 +155,7 @@ static void give_object(struct single *single, uint32_t handle, uint32_t engine,
     single->lens.table = single->memory.table_count;
 }
 
-/* Objects with the handles FIRST_HANDLE and up; class word and engine are good ones as often as not. */
+/* P1: objects with the handles FIRST_HANDLE and up; class word and engine are good ones as often as not. */
 static void give_objects(struct draw *draw, struct single *single)
 {
     for (uint32_t i = 0; i < OBJECTS; i++) {
@@ -175,7 +175,7 @@ static uint32_t draw_handle(struct draw *draw)
     return FIRST_HANDLE + (draw_once_in(draw, 4) ? OBJECTS : object);
 }
 
-/* Semaphore words 0 and 1 of values 0 to 2, the offset at one of them, or right past them. */
+/* P14: semaphore words 0 and 1 of values 0 to 2, the offset at one of them, or right past them. */
 static void give_semaphores(struct draw *draw, struct single *single)
 {
     struct memory *memory = &single->memory;
@@ -219,8 +219,8 @@ static struct single draw_method(struct draw *draw, struct setting setting, uint
     return single;
 }
 
-/* Every method to 0x100 at every setting, SLI active or not. Levels of many settings try what they lack at
- * one setting in three. */
+/* W18, S24, S28, P3, P22: every method to 0x100 at every setting, SLI active or not. Levels of many settings
+ * try what they lack at one setting in three. */
 static void put_methods(struct vectors *vectors)
 {
     for (uint32_t i = 0; i < STATES; i++)
@@ -234,7 +234,8 @@ static void put_methods(struct vectors *vectors)
         }
 }
 
-/* The special methods and those for the engine once more, at any level that has them or not. */
+/* S24, P3, P6, P7, P8, P20, P21: the special methods and those for the engine once more, at any level that
+ * has them or not. */
 static void put_more_methods(struct vectors *vectors)
 {
     static const uint32_t methods[] = {0x00, 0x10,  0x24,  0x50,  0x60,  0x64,  0x68,  0x6c,
@@ -250,7 +251,7 @@ static void put_more_methods(struct vectors *vectors)
 
 /* ---- The puller, case by case ---- */
 
-/* "engine (bits 4-0)": numbers with those bits 0, and with others above them. */
+/* P1, P4, P5: engines whose bits 4-0 are 0, and such that have others above them. */
 static void put_engines(struct vectors *vectors)
 {
     static const uint32_t engines[] = {0, 1, 31, 32, 33, 0x80000000, UINT32_MAX, 0xffffffe0};
@@ -264,7 +265,8 @@ static void put_engines(struct vectors *vectors)
     }
 }
 
-/* Methods around 0x180 to 0x1fc, with a handle that there is or isn't, on a subchannel bound or not. */
+/* P18, P19: methods around 0x180 to 0x1fc, with a handle that there is or isn't, on a subchannel bound or
+ * not. */
 static void put_forwards(struct vectors *vectors)
 {
     static const uint32_t methods[] = {0x100, 0x17c, 0x180, 0x1bc, 0x1fc, 0x200, 0x280, 0x1ffc};
@@ -280,7 +282,7 @@ static void put_forwards(struct vectors *vectors)
     }
 }
 
-/* "Lookup takes the lowest matching entry", whatever the other words of the entries are. */
+/* P2: handles that stand more than once, 0 among them, whatever the other words of the entries are. */
 static void put_lookups(struct vectors *vectors)
 {
     static const uint32_t methods[] = {0x00, 0x60, 0x180};
@@ -301,7 +303,7 @@ static void put_lookups(struct vectors *vectors)
     }
 }
 
-/* Entries of the table that the record doesn't give: the last that is lent, and the one after it. */
+/* P2: entries of the table that the record doesn't give, the last that is lent and the one after it. */
 static void put_far_lookups(struct vectors *vectors)
 {
     static const uint32_t methods[] = {0x00, 0x60, 0x180};
@@ -319,7 +321,8 @@ static void put_far_lookups(struct vectors *vectors)
     }
 }
 
-/* 0x60 with every class, write-only and page table bit, right and wrong, and bits that aren't named. */
+/* P1, P9, P10: 0x60 with every class, write-only and page table bit, right and wrong, and bits without a
+ * meaning. */
 static void put_classes(struct vectors *vectors)
 {
     static const uint32_t classes[] = {0x30002, 0x20002, 0x10002, 0x00002, 0x30000, 0x30003,
@@ -335,7 +338,7 @@ static void put_classes(struct vectors *vectors)
     }
 }
 
-/* 0x64 with each bit of the offset at issue. */
+/* P11, P12: 0x64 with each bit of the offset at issue. */
 static void put_offsets(struct vectors *vectors)
 {
     for (uint32_t i = 0; i < 4 * 33; i++) {
@@ -350,8 +353,8 @@ static void put_offsets(struct vectors *vectors)
     }
 }
 
-/* Acquire and release: set up or not, the word the first, the last, the one past the end or far behind it;
- * the offset "rounded down"; the value found or not. */
+/* P13, P14, P15, P17: acquire and release, set up or not, the word the first, the last, the one past the end
+ * or far behind it; the offset at any byte of a word; the value found or not. */
 static void put_semaphores(struct vectors *vectors)
 {
     for (uint32_t i = 0; i < 4 * 2 * 2 * 2 * 8; i++) {
@@ -372,7 +375,7 @@ static void put_semaphores(struct vectors *vectors)
     }
 }
 
-/* A release far behind the words that the record gives. */
+/* P14, P17: a release far behind the words that the record gives. */
 static void put_far_releases(struct vectors *vectors)
 {
     static const uint32_t places[] = {64, 1023, 1024, 16383};
@@ -391,7 +394,8 @@ static void put_far_releases(struct vectors *vectors)
 
 /* ---- The pusher, case by case ---- */
 
-/* Each form at each setting, in a subroutine or not; each third word is one bit off. */
+/* W11, W12, S16, S18, S19, S20, S21, S22, S23, S27, S28: each form at each setting, in a subroutine or not;
+ * each third word is one bit off. */
 static void put_commands(struct vectors *vectors)
 {
     struct draw *draw = &vectors->draw;
@@ -409,7 +413,7 @@ static void put_commands(struct vectors *vectors)
     }
 }
 
-/* Words that may be anything; every other command has count 0. */
+/* S17, S23: words that may be anything; every other command has count 0. */
 static void put_any_commands(struct vectors *vectors)
 {
     for (uint32_t i = 0; i < 160; i++) {
@@ -421,8 +425,7 @@ static void put_any_commands(struct vectors *vectors)
     }
 }
 
-/* "An SLI conditional sets sli_active exactly if its mask and the channel's share a set bit": each bit of
- * the channel's mask, against itself, its neighbour and all others. */
+/* S19: each bit of the channel's mask, against itself, its neighbour and all others. */
 static void put_conditionals(struct vectors *vectors)
 {
     for (uint32_t i = 0; i < 12 * 3; i++) {
@@ -437,7 +440,7 @@ static void put_conditionals(struct vectors *vectors)
     }
 }
 
-/* "The word is the count if a long form waits for one", in NV04-style too, whatever the count was. */
+/* S14, S15, R35: words where a count is awaited, in NV04-style too, whatever the count was. */
 static void put_count_words(struct vectors *vectors)
 {
     static const uint32_t words[] = {0, 1, 0x00ffffff, 0x01000000, 0xff000000, 0xff000001, UINT32_MAX};
@@ -453,7 +456,7 @@ static void put_count_words(struct vectors *vectors)
     }
 }
 
-/* The last parameter, the longest run, the largest method, increasing or not. */
+/* S25: the last parameter, the longest run, the largest method, increasing or not. */
 static void put_run_ends(struct vectors *vectors)
 {
     static const uint32_t counts[] = {1, 2, 0xffffff};
@@ -470,8 +473,8 @@ static void put_run_ends(struct vectors *vectors)
     }
 }
 
-/* A read address and a limit around each other, in either mode; half of the time the word is also the last
- * lent or the one after it. */
+/* S9, S10, S11, S12: a read address and a limit around each other, in either mode; half of the time the word
+ * is also the last lent or the one after it. */
 static void put_limits(struct vectors *vectors)
 {
     static const uint32_t differences[] = {0, 1, 3, 4, UINT32_MAX, UINT32_MAX - 3};
@@ -489,7 +492,7 @@ static void put_limits(struct vectors *vectors)
     }
 }
 
-/* Addresses that only 40 bits hold: above any limit, and never an index cut to 32 bits. */
+/* S10: addresses that only 40 bits hold, above any limit, and never an index cut to 32 bits. */
 static void put_far_words(struct vectors *vectors)
 {
     static const uint64_t addresses[] = {0xfffffffc,
@@ -512,7 +515,7 @@ static void put_far_words(struct vectors *vectors)
 
 /* ---- Entries ---- */
 
-/* An entry whose address and size are at their ends as often as not. */
+/* E1, E4: an entry whose address and size are at their ends as often as not, with any flags. */
 static uint64_t draw_entry(struct draw *draw)
 {
     uint64_t address = draw_any_number(draw);
@@ -542,6 +545,7 @@ static struct single draw_entry_single(struct draw *draw, uint32_t order)
     return single;
 }
 
+/* E1, E2, E3, E4, E5, E6, E7, S7: entries of rings of every order. */
 static void put_entries(struct vectors *vectors)
 {
     for (uint32_t i = 0; i < 13 * 20; i++) {
@@ -553,7 +557,7 @@ static void put_entries(struct vectors *vectors)
     }
 }
 
-/* Indices around the end of the lent entries and of the ring. */
+/* E2, E3: indices around the end of the lent entries and of the ring. */
 static void put_far_entries(struct vectors *vectors)
 {
     for (uint32_t i = 0; i < 13 * 3; i++) {
@@ -574,7 +578,8 @@ static void put_far_entries(struct vectors *vectors)
 
 /* ---- No word, no entry ---- */
 
-/* A retry: at every level, whatever is bound or valid, in either mode; at the last word and past it. */
+/* S5, P16, P21, R35: a retry at every level, whatever is bound or valid, in either mode; at the last word and
+ * past it. */
 static void put_retries(struct vectors *vectors)
 {
     for (uint32_t i = 0; i < STATES * 14; i++) {
@@ -590,7 +595,8 @@ static void put_retries(struct vectors *vectors)
     }
 }
 
-/* Stopped by either half or both, though there is a word, an entry or an acquire. */
+/* S4, S26, P23: stopped by either half or both, with each error, though there is a word, an entry or an
+ * acquire. */
 static void put_stopped(struct vectors *vectors)
 {
     for (uint32_t i = 1; i < 7 * 7 * 3; i++) {
@@ -607,7 +613,7 @@ static void put_stopped(struct vectors *vectors)
     }
 }
 
-/* Nothing to read: in NV04-style, and in IB mode with both indices equal. */
+/* S8: nothing to read, in NV04-style, and in IB mode with both indices equal. */
 static void put_idle(struct vectors *vectors)
 {
     for (uint32_t i = 0; i < STATES * 5; i++) {
@@ -620,7 +626,7 @@ static void put_idle(struct vectors *vectors)
     }
 }
 
-/* Anything that is well-formed. */
+/* S3, S13: anything that is well-formed. */
 static void put_any(struct vectors *vectors)
 {
     for (uint32_t i = 0; i < 420; i++) {
@@ -662,6 +668,8 @@ static struct single draw_ill_formed(struct draw *draw, unsigned breach, unsigne
     return single;
 }
 
+/* R13, R31, R32, R33, R34: every way to be ill-formed, with the nearest number that is good, and two at
+ * once. */
 static void put_ill_formed(struct vectors *vectors)
 {
     struct draw *draw = &vectors->draw;
@@ -692,7 +700,7 @@ static struct single draw_release(struct draw *draw)
     return single;
 }
 
-/* Table lengths around those that are refused, whatever the step would do. */
+/* R5, R31: table lengths around those that are refused, whatever the step would do. */
 static void put_tables(struct vectors *vectors)
 {
     static const uint32_t lents[] = {1, 2, 3, 4, 5, 4092, 4095, 4096, 4097, 4098, 4099, 4100, 4104};
@@ -711,8 +719,8 @@ static void put_tables(struct vectors *vectors)
     }
 }
 
-/* "Step: 13, 8, 5." Each of the three wrong or not; of the sizes either, one at a time, since the program that
- * runs the vectors has room for one such memory. Few, as it is large. */
+/* R21, R27: each of the three wrong or not; of the sizes either, one at a time, since the program that runs
+ * the vectors has room for one such memory. Few, as it is large. */
 static void put_orders(struct vectors *vectors)
 {
     for (uint32_t i = 0; i < 2 * 2 * 2 * 2; i++) {
@@ -729,7 +737,7 @@ static void put_orders(struct vectors *vectors)
     }
 }
 
-/* SIZE whatever the step would do: stopped, a retry, nothing. */
+/* R8, R31: SIZE whatever the step would do, stopped, a retry, nothing. */
 static void put_sizes(struct vectors *vectors)
 {
     for (uint32_t i = 0; i < 2 * 3; i++) {
@@ -747,7 +755,7 @@ static void put_sizes(struct vectors *vectors)
     }
 }
 
-/* The last word of the largest pushbuffer, and one past it. */
+/* R8, S10: the last word of the largest pushbuffer, and one past it. */
 static void put_last_words(struct vectors *vectors)
 {
     for (uint32_t i = 0; i < 4; i++) {
@@ -761,7 +769,8 @@ static void put_last_words(struct vectors *vectors)
     }
 }
 
-/* The last word of the largest semaphore memory, and one past it: released, acquired, tried again. */
+/* R8, P14: the last word of the largest semaphore memory, and one past it, released, acquired, tried
+ * again. */
 static void put_last_semaphores(struct vectors *vectors)
 {
     for (uint32_t i = 0; i < 6; i++) {

@@ -11,7 +11,7 @@ uint32_t draw_any_number(struct draw *draw)
 
 /* ---- Well-formed channels ---- */
 
-/* The widths of the words of a row, but for those that depend on the set-up: they stay 0 here, as do the
+/* R32: the widths of the words of a row, but for those that depend on the set-up: they stay 0 here, as do the
  * errors and the active acquire. */
 static const unsigned char widths[CHANNEL_WORDS] = {
     [AT_DMA_LIMIT] = 32,     [AT_GET] = 32,         [AT_PUT] = 32,           [AT_COUNT] = 24,
@@ -24,7 +24,7 @@ static const unsigned char widths[CHANNEL_WORDS] = {
     [AT_DMA_MGET_VALID] = 1,
 };
 
-/* The part of a channel that only IB mode has. */
+/* R32, R34: the part of a channel that only IB mode has. */
 static void draw_ib(struct draw *draw, struct channel *channel)
 {
     channel->setup.ib_order = draw_below(draw, ORDER_LIMIT + 1);
@@ -35,6 +35,7 @@ static void draw_ib(struct draw *draw, struct channel *channel)
     channel->dma_mget |= (uint64_t)draw_below(draw, 256) << 32;
 }
 
+/* R32, R33, R34: what STATE asks holds of it, and what it doesn't ask need not. */
 struct channel draw_channel(struct draw *draw, struct setting setting)
 {
     struct record record = {{0}};
@@ -69,8 +70,9 @@ struct breach {
     uint64_t numbers[BREACHES];
 };
 
+/* R13, R32, R33, R34: every number that STATE asks about. */
 static const struct breach breaches[] = {
-    /* "a combination that 1 to 4 refuse" */
+    /* R34: what opening refuses. */
     {MODE_NV04, ANY, 0, AT_LEVEL, {5, 6, 256, UINT32_MAX}},
     {MODE_IB, ANY, 12, AT_LEVEL, {5, 6, 260, UINT32_MAX}},
     {MODE_NV04, ANY, 0, AT_MODE, {0, 2, 256, UINT32_MAX}},
@@ -78,20 +80,20 @@ static const struct breach breaches[] = {
     {MODE_IB, false, 12, AT_LEVEL, {4, 3, 2, 0}},
     {MODE_IB, ANY, 12, AT_IB_ORDER, {12, 13, 256, UINT32_MAX}},
     {MODE_NV04, true, 0, AT_LEVEL, {3, 2, 1, 0}},
-    /* "In NV04-style ib_order is held as 0, else 13." */
+    /* R34: a ring in NV04-style. */
     {MODE_NV04, ANY, 0, AT_IB_ORDER, {0, 1, 12, UINT32_MAX}},
-    /* "read, put and dma_mget 32 bits in NV04-style, 40 in IB" */
+    /* R32: addresses by the mode. */
     {MODE_NV04, ANY, 0, AT_GET, {0xfffffffc, UINT64_C(1) << 32, UINT64_C(1) << 63, UINT64_MAX - 3}},
     {MODE_NV04, ANY, 0, AT_PUT, {0xfffffffc, UINT64_C(1) << 32, UINT64_C(1) << 63, UINT64_MAX - 3}},
     {MODE_NV04, ANY, 0, AT_DMA_MGET, {0xffffffff, UINT64_C(1) << 32, UINT64_C(1) << 39, UINT64_MAX}},
     {MODE_IB, ANY, 12, AT_GET, {0xfffffffffc, UINT64_C(1) << 40, UINT64_C(1) << 63, UINT64_MAX - 3}},
     {MODE_IB, ANY, 12, AT_PUT, {0xfffffffffc, UINT64_C(1) << 40, UINT64_C(1) << 63, UINT64_MAX - 3}},
     {MODE_IB, ANY, 12, AT_DMA_MGET, {0xffffffffff, UINT64_C(1) << 40, UINT64_C(1) << 63, UINT64_MAX}},
-    /* "a read, put or return address not a multiple of 4" */
+    /* R33: addresses between words. */
     {ANY, ANY, 0, AT_GET, {0, 1, 2, 0xffffffff}},
     {ANY, ANY, 0, AT_PUT, {0, 1, 2, 0xffffffff}},
     {ANY, ANY, 0, AT_RETURN_ADDRESS, {0xfffffffc, 1, 2, 0xffffffff}},
-    /* "ib_get and ib_put below 2^ib_order" */
+    /* R32: indices by the order. */
     {MODE_IB, ANY, 12, AT_IB_GET, {4095, 4096, 65536, UINT32_MAX}},
     {MODE_IB, ANY, 12, AT_IB_PUT, {4095, 4096, 65536, UINT32_MAX}},
     {MODE_IB, ANY, 5, AT_IB_GET, {31, 32, 256, UINT32_MAX}},
@@ -100,7 +102,7 @@ static const struct breach breaches[] = {
     {MODE_IB, ANY, 0, AT_IB_PUT, {0, 1, 256, UINT32_MAX}},
     {MODE_NV04, ANY, 0, AT_IB_GET, {0, 1, 256, UINT32_MAX}},
     {MODE_NV04, ANY, 0, AT_IB_PUT, {0, 1, 256, UINT32_MAX}},
-    /* "count 24 bits, SLI mask 12, method number 11, engine 5, subchannel 3" */
+    /* R32: widths that are the same in both modes. */
     {ANY, ANY, 0, AT_COUNT, {0xffffff, 0x1000000, 0x80000000, UINT32_MAX}},
     {ANY, ANY, 0, AT_SLI_MASK, {4095, 4096, 65536, UINT32_MAX}},
     {ANY, ANY, 0, AT_METHOD, {2047, 2048, 0x8000, 0xffff}},
@@ -174,7 +176,7 @@ static void put_put(struct vectors *vectors, struct channel channel, uint32_t pu
     put_record(vectors, PUT, buffer.words, buffer.count, refusal);
 }
 
-/* A channel for put: one in three is stopped, by either half or both. */
+/* S2: a channel for put, of which one in three is stopped, by either half or both. */
 static struct channel draw_put_channel(struct draw *draw, struct setting setting)
 {
     struct channel channel = draw_channel(draw, setting);
@@ -187,6 +189,7 @@ static struct channel draw_put_channel(struct draw *draw, struct setting setting
     return channel;
 }
 
+/* R7, S2: puts between words, and at both ends of 32 bits. */
 static void put_puts_nv04(struct vectors *vectors, struct setting setting)
 {
     static const uint32_t puts[] = {0,          1,          2,          3,          4,         0x7ffffffc,
@@ -203,6 +206,7 @@ static void put_puts_nv04(struct vectors *vectors, struct setting setting)
     }
 }
 
+/* R7, S2: puts around the ring's end, for every order. */
 static void put_puts_ib(struct vectors *vectors, struct setting setting)
 {
     for (uint32_t order = 0; order <= ORDER_LIMIT; order++) {
@@ -220,7 +224,7 @@ static void put_puts_ib(struct vectors *vectors, struct setting setting)
     }
 }
 
-/* "Setting put: 13, 7." A put that is good in both modes, and one that is bad. */
+/* R13, R26, R31: a put that is good in both modes, and one that is bad. */
 static void put_puts_ill_formed(struct vectors *vectors)
 {
     struct draw *draw = &vectors->draw;

@@ -1,5 +1,5 @@
-/* The self-test of the model of the channel: the paper's sentences as cases worked out by hand, its printed
- * example, second readings of opening and of STATE, and what must hold of any run. */
+/* The self-test of the model of the channel: the rules as cases worked out by hand, the printed example,
+ * second readings of opening and of STATE, and what must hold of any run. */
 #include <inttypes.h>
 #include <stdio.h>
 #include <stdlib.h>
@@ -53,7 +53,7 @@ static struct answer method(uint32_t kind, uint32_t subchannel, uint32_t number,
 
 /* ---- The scene of a case ---- */
 
-/* Handle, engine, address, class. The bits that the paper doesn't name are set in some. */
+/* P1: handle, engine, address, class. The bits that have no meaning are set in some. */
 static const uint32_t objects[] = {
     0x100, 0x05,       0xa0, 0x30002,    /* a good semaphore object, engine 5 */
     0x200, 0xffffffe0, 0xa1, 0x30002,    /* engine 0 */
@@ -116,7 +116,7 @@ static struct channel taking(uint32_t level, uint32_t number, uint32_t parameter
     return channel;
 }
 
-/* The channel after word 0 is read: in IB mode dma_mget follows, unless NOT_MAIN is set. */
+/* S11, S12: the channel after word 0 is read. In IB mode dma_mget follows, unless NOT_MAIN is set. */
 static struct channel advanced(struct channel channel)
 {
     channel.get = 4;
@@ -127,7 +127,7 @@ static struct channel advanced(struct channel channel)
     return channel;
 }
 
-/* The channel after word 0 is taken as a parameter, as far as the pusher goes. */
+/* S25: the channel after word 0 is taken as a parameter, as far as the pusher goes. */
 static struct channel submitted(struct channel channel)
 {
     channel = advanced(channel);
@@ -149,7 +149,8 @@ static struct channel puller_stopped(struct channel channel, uint32_t error)
     return channel;
 }
 
-/* One step leads from one channel to the other with this answer, and to the semaphore words expected. */
+/* S13, S29, P3: one step leads from one channel to the other, every field of it, with this answer, and to the
+ * semaphore words expected. */
 static void steps(const char *sentence, struct channel before, struct answer answer, struct channel after)
 {
     struct setting setting = before.setup.setting;
@@ -165,7 +166,7 @@ static void steps(const char *sentence, struct channel before, struct answer ans
 
 enum { OPENINGS = 7 };
 
-/* The paper's conditions of opening, in its order, each by itself. */
+/* R1, R2, R3, R4, R5, R6, R10, R21, R25: the conditions of opening, in their order, each by itself. */
 static uint32_t first_of_opening(struct setup setup, size_t count, bool repeats)
 {
     static const uint32_t numbers[OPENINGS] = {1, 2, 3, 4, 10, 5, 6};
@@ -185,7 +186,7 @@ static uint32_t first_of_opening(struct setup setup, size_t count, bool repeats)
     return REFUSAL_NONE;
 }
 
-/* What opening must leave: "the blank channel (level 0, NV04-style, all else 0)" or a fresh one. */
+/* R30, S1: what opening must leave, the blank channel or a fresh one. */
 static struct channel opened_as(struct setup setup, uint32_t refusal)
 {
     struct channel channel = {0};
@@ -199,7 +200,8 @@ static struct channel opened_as(struct setup setup, uint32_t refusal)
     return channel;
 }
 
-/* Opening over tables of every length at issue, the handles rising, without a repeat and with one. */
+/* R5, R6, R25: opening over tables of every length at issue, the handles rising, without a repeat and with
+ * one. */
 static void test_opening_tables(struct setup setup)
 {
     static const size_t counts[] = {0, 3, 4, 8, 4092, 4096, 4097, 4099, 4100};
@@ -226,6 +228,8 @@ static void test_opening_tables(struct setup setup)
     }
 }
 
+/* R1, R2, R3, R4, R10, R25: opening with every number at issue, and those that a narrower type would cut to
+ * good ones. */
 static void test_opening(void)
 {
     static const uint32_t levels[] = {0, 2, 3, 4, 5, 6, 256, 260, UINT32_MAX};
@@ -243,7 +247,7 @@ static void test_opening(void)
                 }
 }
 
-/* "for 6, the lowest entry that repeats an earlier one" */
+/* R6: which of several entries is told. */
 static void test_repeats(void)
 {
     static const struct {
@@ -272,6 +276,7 @@ static void test_repeats(void)
 
 /* ---- Put ---- */
 
+/* S2: setting put leads from one channel to the other, every field of it, with this refusal. */
 static void sets_put(const char *sentence, struct channel before, uint32_t put, uint32_t refusal,
                      struct channel after)
 {
@@ -281,6 +286,8 @@ static void sets_put(const char *sentence, struct channel before, uint32_t put, 
     check(same_channel(&before, &after), sentence, setting.level, setting.mode);
 }
 
+/* R7, R26, R31, S2, S4: puts at the limits of either mode, on a stopped channel and on one that is
+ * refused. */
 static void test_put(void)
 {
     struct channel nv04 = at(5, MODE_NV04, false);
@@ -288,25 +295,25 @@ static void test_put(void)
     struct channel after = nv04;
 
     after.put = 0xfffffffc;
-    sets_put("NV04-style: a multiple of 4", nv04, 0xfffffffc, REFUSAL_NONE, after);
+    sets_put("NV04-style: a word's address", nv04, 0xfffffffc, REFUSAL_NONE, after);
     for (uint32_t put = 1; put < 4; put++)
-        sets_put("NV04-style: not a multiple of 4", nv04, put, REFUSAL_PUT, nv04);
+        sets_put("NV04-style: no word's address", nv04, put, REFUSAL_PUT, nv04);
     nv04.puller_error = PULLER_NO_HASH;
     after.puller_error = PULLER_NO_HASH;
-    sets_put("Put may be set on a stopped channel; it stays stopped", nv04, 0xfffffffc, REFUSAL_NONE, after);
+    sets_put("a stopped channel takes another put", nv04, 0xfffffffc, REFUSAL_NONE, after);
     steps("a stopped channel with another put", after, plain(KIND_STOPPED), after);
     nv04.subchannel = 8;
-    sets_put("Setting put: 13, 7", nv04, 1, REFUSAL_STATE, nv04);
+    sets_put("STATE before PUT", nv04, 1, REFUSAL_STATE, nv04);
 
     after = ib;
     after.ib_put = 3;
-    sets_put("IB: below 2^ib_order", ib, 3, REFUSAL_NONE, after);
-    sets_put("IB: not below 2^ib_order", ib, 4, REFUSAL_PUT, ib);
+    sets_put("IB: the ring's last place", ib, 3, REFUSAL_NONE, after);
+    sets_put("IB: a place past the ring", ib, 4, REFUSAL_PUT, ib);
     ib.setup.ib_order = 0;
     sets_put("order 0 holds one place", ib, 0, REFUSAL_NONE, ib);
     sets_put("order 0 holds one place", ib, 1, REFUSAL_PUT, ib);
     ib.setup.ib_order = 13;
-    sets_put("Setting put: 13, 7", ib, UINT32_MAX, REFUSAL_STATE, ib);
+    sets_put("STATE before PUT", ib, UINT32_MAX, REFUSAL_STATE, ib);
 }
 
 /* ---- The order of a step ---- */
@@ -324,6 +331,7 @@ static struct channel busy(uint32_t level)
     return channel;
 }
 
+/* S3, S4, S5, S6, S7, S8: of five things to do the first is done, one after the other. */
 static void test_step_order(uint32_t level)
 {
     struct channel channel = busy(level);
@@ -331,20 +339,20 @@ static void test_step_order(uint32_t level)
 
     for (uint32_t error = 1; error <= 6; error++) {
         after = pusher_stopped(channel, error);
-        steps("Stopped by an error: answers stopped, nothing changes", after, plain(KIND_STOPPED), after);
+        steps("stopped comes first", after, plain(KIND_STOPPED), after);
         after = puller_stopped(channel, error);
-        steps("Stopped by an error: answers stopped, nothing changes", after, plain(KIND_STOPPED), after);
+        steps("stopped comes first", after, plain(KIND_STOPPED), after);
     }
     after = channel;
     after.acquire_active = false;
-    steps("Acquire active: reads the semaphore again", channel, plain(KIND_ACQUIRE), after);
+    steps("a retry comes before a word", channel, plain(KIND_ACQUIRE), after);
 
     channel = after;
     after = advanced(channel);
     after.count = 1;
     after.method = 0x100 / 4;
     after.increasing = true;
-    steps("Read address unequal to put: reads one word", channel, plain(KIND_COMMAND), after);
+    steps("a word comes before an entry", channel, plain(KIND_COMMAND), after);
 
     channel.put = 0;
     after = channel;
@@ -352,13 +360,14 @@ static void test_step_order(uint32_t level)
     after.get = 0x1000;
     after.put = 0x100c;
     after.not_main = true;
-    steps("IB mode, ib_get unequal to ib_put: reads one entry", channel, plain(KIND_ENTRY), after);
+    steps("an entry comes before idle", channel, plain(KIND_ENTRY), after);
 
     channel.ib_put = 0;
-    steps("Idle", channel, plain(KIND_IDLE), channel);
+    steps("nothing is left to do", channel, plain(KIND_IDLE), channel);
 }
 
-/* "Step: 13, 8, 5." A refusal comes before all five, also on a stopped channel. */
+/* R5, R8, R13, R21, R27, R31: the order of a step. A refusal comes before all that a step does, also on a
+ * stopped channel. */
 static void test_step_refusals(void)
 {
     static uint32_t many[SIZE_LIMIT + 1];
@@ -376,20 +385,20 @@ static void test_step_refusals(void)
     steps("STATE before TABLE", broken, refused(REFUSAL_STATE), broken);
     scene.lent.semaphores = many;
     scene.lent.semaphore_count = SIZE_LIMIT + 1;
-    steps("semaphore memory over 1,048,576 words", channel, refused(REFUSAL_SIZE), channel);
+    steps("1,048,577 semaphore words", channel, refused(REFUSAL_SIZE), channel);
     scene.lent.semaphore_count = SIZE_LIMIT;
     scene.lent.table = many;
     scene.lent.table_count = 4097;
-    steps("object table not a multiple of 4 words", channel, refused(REFUSAL_TABLE), channel);
+    steps("a table with a part entry", channel, refused(REFUSAL_TABLE), channel);
     scene.lent.table_count = 4100;
-    steps("object table over 4,096 words", channel, refused(REFUSAL_TABLE), channel);
+    steps("a table of 4,100 words", channel, refused(REFUSAL_TABLE), channel);
     scene.lent.table_count = 4096;
     steps("4,096 words are not over; one handle many times", channel, plain(KIND_STOPPED), channel);
 }
 
 /* ---- Words ---- */
 
-/* Words whose count is their place plus one. */
+/* S9, S11, S12: each word by its address. Its count is its place plus one. */
 static void test_addresses(uint32_t mode)
 {
     for (uint32_t place = 0; place < 8; place++) {
@@ -405,11 +414,11 @@ static void test_addresses(uint32_t mode)
         after.get = 4 * place + 4;
         if (mode == MODE_IB)
             after.dma_mget = after.get;
-        steps("Address 0 is the first lent word; the read address rises by 4", channel, plain(KIND_COMMAND),
-              after);
+        steps("the word at an address, and the address after it", channel, plain(KIND_COMMAND), after);
     }
 }
 
+/* S10, S27, S28: at and past the limit, and at and past the last lent word. */
 static void test_protection(uint32_t level, uint32_t mode)
 {
     struct channel channel = reading(level, mode, false);
@@ -417,7 +426,7 @@ static void test_protection(uint32_t level, uint32_t mode)
 
     channel.get = 8;
     channel.setup.dma_limit = 7;
-    steps("PROTECTION if g is above dma_limit, in either mode; g stays", channel, plain(KIND_ERROR),
+    steps("PROTECTION one byte past the limit", channel, plain(KIND_ERROR),
           pusher_stopped(channel, PUSHER_PROTECTION));
     scene.lent.word_count = 3;
     channel.setup.dma_limit = 8;
@@ -425,26 +434,27 @@ static void test_protection(uint32_t level, uint32_t mode)
     after.get = 12;
     if (mode == MODE_IB)
         after.dma_mget = 12;
-    steps("g at dma_limit, the last lent word", channel, plain(KIND_COMMAND), after);
+    steps("a word at the limit, the last that is lent", channel, plain(KIND_COMMAND), after);
     scene.lent.word_count = 2;
-    steps("PROTECTION if beyond the lent words; g stays", channel, plain(KIND_ERROR),
+    steps("PROTECTION one word past the lent ones", channel, plain(KIND_ERROR),
           pusher_stopped(channel, PUSHER_PROTECTION));
 }
 
-/* An address of 40 bits is above a limit of 32, and isn't cut to an index. */
+/* S10: an address of 40 bits is above a limit of 32, and isn't cut to an index. */
 static void test_protection_far(void)
 {
     struct channel channel = reading(4, MODE_IB, false);
 
     channel.get = UINT64_C(1) << 32;
-    steps("g is above dma_limit", channel, plain(KIND_ERROR), pusher_stopped(channel, PUSHER_PROTECTION));
+    steps("PROTECTION past any limit", channel, plain(KIND_ERROR),
+          pusher_stopped(channel, PUSHER_PROTECTION));
     channel = reading(4, MODE_NV04, false);
     channel.get = 0xfffffffc;
-    steps("beyond the lent words", channel, plain(KIND_ERROR), pusher_stopped(channel, PUSHER_PROTECTION));
+    steps("PROTECTION at the last address", channel, plain(KIND_ERROR),
+          pusher_stopped(channel, PUSHER_PROTECTION));
 }
 
-/* "The word is the count if a long form waits for one, else a parameter while the count isn't used up, else
- * a command." */
+/* S14, S15: one and the same word as a count, as a parameter and as a command. */
 static void test_roles(uint32_t mode)
 {
     struct channel channel = reading(4, mode, false);
@@ -457,13 +467,12 @@ static void test_roles(uint32_t mode)
     after = advanced(channel);
     after.count = 0x50;
     after.count_awaited = false;
-    steps("the count if a long form waits for one", channel, plain(KIND_COUNT), after);
+    steps("a count that is awaited", channel, plain(KIND_COUNT), after);
 
     channel.count_awaited = false;
     after = submitted(channel);
     after.ref = 0xff000050;
-    steps("else a parameter while the count isn't used up", channel, method(KIND_REF, 0, 0x50, 0xff000050),
-          after);
+    steps("a parameter, since three are to come", channel, method(KIND_REF, 0, 0x50, 0xff000050), after);
 
     channel.count = 1;
     after = submitted(channel);
@@ -471,10 +480,11 @@ static void test_roles(uint32_t mode)
     steps("the last parameter", channel, method(KIND_REF, 0, 0x50, 0xff000050), after);
 
     channel.count = 0;
-    steps("else a command", channel, plain(KIND_ERROR),
+    steps("a command, since none is to come", channel, plain(KIND_ERROR),
           pusher_stopped(advanced(channel), PUSHER_RESERVED_CMD));
 }
 
+/* S16, S17: runs, and commands without a parameter. */
 static void test_method_commands(uint32_t mode)
 {
     struct channel channel = reading(5, mode, false);
@@ -483,10 +493,10 @@ static void test_method_commands(uint32_t mode)
     channel.method = after.method = 9;
     channel.subchannel = after.subchannel = 6;
     scene.words[0] = 0x00002180;
-    steps("A command with count 0 does nothing", channel, plain(KIND_COMMAND), after);
+    steps("count 0 leaves the run as it was", channel, plain(KIND_COMMAND), after);
     scene.words[0] = 0x40002180;
     channel.increasing = after.increasing = true;
-    steps("A command with count 0 does nothing", channel, plain(KIND_COMMAND), after);
+    steps("count 0 leaves the run as it was", channel, plain(KIND_COMMAND), after);
 
     scene.words[0] = 0x400cfffc;
     after.count = 3;
@@ -504,6 +514,7 @@ static void test_method_commands(uint32_t mode)
     steps("increasing 2047, subchannel 1, 0x0180", channel, plain(KIND_COMMAND), after);
 }
 
+/* S18, S23: a long form, which NV04-style doesn't have. */
 static void test_long(void)
 {
     struct channel channel = reading(4, MODE_IB, false);
@@ -520,12 +531,11 @@ static void test_long(void)
 
     channel = reading(4, MODE_NV04, false);
     scene.words[0] = 0x00034100;
-    steps("long: IB only", channel, plain(KIND_ERROR),
+    steps("a long form in NV04-style", channel, plain(KIND_ERROR),
           pusher_stopped(advanced(channel), PUSHER_RESERVED_CMD));
 }
 
-/* "An SLI conditional sets sli_active exactly if its mask and the channel's share a set bit, else clears
- * it." */
+/* S19, S23: an SLI conditional, with SLI on and off. */
 static void test_conditional(uint32_t level, uint32_t mode)
 {
     static const struct {
@@ -543,7 +553,7 @@ static void test_conditional(uint32_t level, uint32_t mode)
         scene.words[0] = rows[i / 2].word;
         after = advanced(channel);
         after.sli_active = rows[i / 2].active;
-        steps("An SLI conditional", channel, plain(KIND_COMMAND), after);
+        steps("an SLI conditional", channel, plain(KIND_COMMAND), after);
     }
     channel = reading(level, mode, false);
     scene.words[0] = 0x00010050;
@@ -553,6 +563,7 @@ static void test_conditional(uint32_t level, uint32_t mode)
 
 /* ---- Jump, call, return ---- */
 
+/* W9, W10, S20, S23: jumps, also below the level that has them. */
 static void test_jumps(uint32_t level)
 {
     struct channel channel = reading(level, MODE_NV04, false);
@@ -567,9 +578,9 @@ static void test_jumps(uint32_t level)
     scene.words[0] = 0x00010001;
     after.get = 0x00010000;
     if (level >= 2)
-        steps("0x00010001 is a jump to 0x00010000 at level 2", channel, plain(KIND_COMMAND), after);
+        steps("a jump, whatever its upper half", channel, plain(KIND_COMMAND), after);
     else
-        steps("jump: level 2 up", channel, plain(KIND_ERROR),
+        steps("a jump below level 2", channel, plain(KIND_ERROR),
               pusher_stopped(advanced(channel), PUSHER_RESERVED_CMD));
     scene.words[0] = 0xfffffffd;
     after.get = 0xfffffffc;
@@ -577,6 +588,7 @@ static void test_jumps(uint32_t level)
         steps("a jump has 32 bits", channel, plain(KIND_COMMAND), after);
 }
 
+/* S21, S23, S28: a call, also inside a subroutine and below the level that has it. */
 static void test_call(uint32_t level)
 {
     struct channel channel = reading(level, MODE_NV04, false);
@@ -585,18 +597,20 @@ static void test_call(uint32_t level)
     scene.words[0] = 0x00002002;
     channel.return_address = after.return_address = 0x44;
     if (level < 2) {
-        steps("call: level 2 up", channel, plain(KIND_ERROR), pusher_stopped(after, PUSHER_RESERVED_CMD));
+        steps("a call below level 2", channel, plain(KIND_ERROR),
+              pusher_stopped(after, PUSHER_RESERVED_CMD));
         return;
     }
     after.return_address = 4;
     after.subroutine = true;
     after.get = 0x2000;
-    steps("The call command copies dma_get to subr_return", channel, plain(KIND_COMMAND), after);
+    steps("a call", channel, plain(KIND_COMMAND), after);
     channel.subroutine = true;
-    steps("If subr_active is already set: CALL, all else as before", channel, plain(KIND_ERROR),
+    steps("a call inside a subroutine", channel, plain(KIND_ERROR),
           pusher_stopped(advanced(channel), PUSHER_CALL));
 }
 
+/* S22, S23, S28: a return, also outside of a subroutine and below the level that has it. */
 static void test_return(uint32_t level)
 {
     struct channel channel = reading(level, MODE_NV04, false);
@@ -605,18 +619,19 @@ static void test_return(uint32_t level)
     scene.words[0] = 0x00020000;
     channel.return_address = after.return_address = 0x44;
     if (level < 2) {
-        steps("return: level 2 up", channel, plain(KIND_ERROR), pusher_stopped(after, PUSHER_RESERVED_CMD));
+        steps("a return below level 2", channel, plain(KIND_ERROR),
+              pusher_stopped(after, PUSHER_RESERVED_CMD));
         return;
     }
-    steps("If subr_active isn't set: RETURN", channel, plain(KIND_ERROR),
+    steps("a return outside of a subroutine", channel, plain(KIND_ERROR),
           pusher_stopped(after, PUSHER_RETURN));
     channel.subroutine = true;
     after.get = 0x44;
-    steps("The return command copies subr_return to dma_get", channel, plain(KIND_COMMAND), after);
+    steps("a return", channel, plain(KIND_COMMAND), after);
 }
 
-/* "Jumps, call and return are NV04-style only." Also "dma_mget following it by the rule below": not where
- * NOT_MAIN is set. */
+/* S12, S23, S28: the forms that IB mode doesn't have, and words of no form. The advance is made all the same,
+ * and dma_mget with it unless NOT_MAIN is set. */
 static void test_flow_in_ib(void)
 {
     static const uint32_t words[] = {0x20000000, 0x00000001, 0x00000002, 0x00020000, 0x00000003, 0x80000000};
@@ -635,10 +650,10 @@ static void test_flow_in_ib(void)
 
 /* ---- Methods ---- */
 
-/* "Present: 0x00 always; 0x10 to 0x24 at level 5; 0x50 from 1; 0x60 to 0x6c from 2; 0x80 from 3." As a row
- * of bits, method 0 lowest, for levels 0 to 5. */
+/* W18: the methods that levels 0 to 5 have, as a row of bits, method 0 lowest. */
 static const uint64_t present[] = {0x1, 0x100001, 0xf100001, 0x10f100001, 0x10f100001, 0x10f1003f1};
 
+/* S24, S28: methods that the level has, and those that it lacks. */
 static void test_present(uint32_t level)
 {
     for (uint32_t number = 0; number < 0x100; number += 4) {
@@ -649,17 +664,16 @@ static void test_present(uint32_t level)
         channel.offset_valid = true;
         if (present[level] >> number / 4 & 1) {
             answer = model_step(&channel, &scene.lent);
-            check(answer.kind != KIND_ERROR && answer.method == number && channel.count == 1, "Present",
-                  level, 0);
+            check(answer.kind != KIND_ERROR && answer.method == number && channel.count == 1,
+                  "a method that the level has", level, 0);
             continue;
         }
-        steps("A method below 0x100 that the level lacks is NON_CACHE; count and method stay", channel,
-              plain(KIND_ERROR), pusher_stopped(advanced(channel), PUSHER_NON_CACHE));
+        steps("NON_CACHE leaves count and method", channel, plain(KIND_ERROR),
+              pusher_stopped(advanced(channel), PUSHER_NON_CACHE));
     }
 }
 
-/* "A method below 0x100 that the level lacks is NON_CACHE, tested before SLI discard." "If SLI is enabled
- * and not active, the method is discarded." */
+/* S24, S25, P22: what is discarded, with the parameter as it was read. NON_CACHE comes before that. */
 static void test_discard(uint32_t level, uint32_t mode)
 {
     static const uint32_t numbers[] = {0x00, 0x50, 0x60, 0x64, 0x68, 0x6c, 0x80, 0x100, 0x180, 0x1ffc};
@@ -676,11 +690,11 @@ static void test_discard(uint32_t level, uint32_t mode)
               submitted(channel));
     }
     channel.method = 0x54 / 4;
-    steps("NON_CACHE, tested before SLI discard", channel, plain(KIND_ERROR),
+    steps("NON_CACHE comes before a discard", channel, plain(KIND_ERROR),
           pusher_stopped(advanced(channel), PUSHER_NON_CACHE));
 }
 
-/* "an increasing method then rises by one modulo 2,048": also where the puller fails or SLI discards. */
+/* S24, S25, P21: an increasing method, also where the puller fails or SLI discards. */
 static void test_increasing(void)
 {
     struct channel channel = taking(3, 0x50, 7);
@@ -690,15 +704,15 @@ static void test_increasing(void)
     after = submitted(channel);
     after.ref = 7;
     check(after.method == 0x54 / 4, "by one", 3, 0);
-    steps("an increasing method then rises by one", channel, method(KIND_REF, 3, 0x50, 7), after);
+    steps("an increasing method goes to the next", channel, method(KIND_REF, 3, 0x50, 7), after);
     channel.method = 0x1ffc / 4;
     after = submitted(channel);
     after.method = 0;
     after.last_engine = 19;
-    steps("modulo 2,048", channel, method(KIND_FORWARD, 3, 0x1ffc, 7), after);
+    steps("method 0 comes after the last", channel, method(KIND_FORWARD, 3, 0x1ffc, 7), after);
     channel.engines[3] = after.engines[3] = 0;
     after.last_engine = 17;
-    steps("the pusher keeps count and method at a puller error", channel, plain(KIND_ERROR),
+    steps("count and method where the puller fails", channel, plain(KIND_ERROR),
           puller_stopped(after, PULLER_EMPTY_SUBCHANNEL));
     channel.sli_active = after.sli_active = false;
     steps("with SLI off sli_active has no effect", channel, plain(KIND_ERROR),
@@ -707,7 +721,7 @@ static void test_increasing(void)
     steps("a discarded method rises too", channel, method(KIND_DISCARD, 3, 0x1ffc, 7), after);
 }
 
-/* "An increasing run from 0x1ffc taken as ending there: its second parameter goes to method 0 and binds." */
+/* S25, P4: a run of two from 0x1ffc, which binds. */
 static void test_wrap(void)
 {
     struct channel channel = taking(0, 0x1ffc, 7);
@@ -721,7 +735,7 @@ static void test_wrap(void)
     after.count = 0;
     after.method = 1;
     after.engines[3] = after.last_engine = 5;
-    steps("its second parameter goes to method 0 and binds", channel, method(KIND_BIND, 3, 0, 0xa0), after);
+    steps("the second parameter binds", channel, method(KIND_BIND, 3, 0, 0xa0), after);
 }
 
 /* ---- IB entries ---- */
@@ -738,6 +752,7 @@ static struct channel fetching(uint64_t entry)
     return channel;
 }
 
+/* E1, E3, E5, E6, E7: entries by their bits. */
 static void test_entries(void)
 {
     struct channel channel = fetching(UINT64_C(0x00000e0000001000));
@@ -747,21 +762,21 @@ static void test_entries(void)
     after.get = 0x1000;
     after.put = 0x100c;
     after.not_main = true;
-    steps("Entry 0x00000e0000001000: address 0x1000, size 3, NOT_MAIN", channel, plain(KIND_ENTRY), after);
+    steps("the entry to try", channel, plain(KIND_ENTRY), after);
     scene.entries[0] |= UINT64_C(0x10000000003);
-    steps("bits 0, 1, 40 ignored", channel, plain(KIND_ENTRY), after);
+    steps("bits 0, 1 and 40 change nothing", channel, plain(KIND_ENTRY), after);
 
     scene.entries[0] = UINT64_C(0xfffffcfffffffffc);
     channel.not_main = true;
     after.not_main = false;
     after.get = after.dma_mget = UINT64_C(0xfffffffffc);
     after.put = UINT64_C(0xfffff8);
-    steps("Put is address plus 4 times size modulo 2^40; dma_mget takes the address", channel,
-          plain(KIND_ENTRY), after);
+    steps("a put past 40 bits, and dma_mget", channel, plain(KIND_ENTRY), after);
     channel.dma_mget_valid = after.dma_mget_valid = true;
-    steps("an entry leaves the valid flag", channel, plain(KIND_ENTRY), after);
+    steps("the valid flag is left alone", channel, plain(KIND_ENTRY), after);
 }
 
+/* E2, E3, E4, S27, S28: the last entry of the ring, one that isn't lent, and one without words. */
 static void test_entry_indices(void)
 {
     struct channel channel = fetching(0);
@@ -772,19 +787,18 @@ static void test_entry_indices(void)
     channel.ib_put = after.ib_put = 1;
     after.get = after.dma_mget = 8;
     after.put = 12;
-    steps("ib_get rises by 1 modulo 2^ib_order", channel, plain(KIND_ENTRY), after);
+    steps("the ring's last entry", channel, plain(KIND_ENTRY), after);
     scene.lent.entry_count = 3;
-    steps("An index past the lent entries is PROTECTION and ib_get stays", channel, plain(KIND_ERROR),
+    steps("PROTECTION one entry past the lent ones", channel, plain(KIND_ERROR),
           pusher_stopped(channel, PUSHER_PROTECTION));
     channel.ib_get = 2;
     after = channel;
     after.ib_get = 3;
     scene.entries[2] = UINT64_C(0x300) << 32 | 0xffffffff;
-    steps("Size 0: error IB after that rise, nothing else changes", channel, plain(KIND_ERROR),
-          pusher_stopped(after, PUSHER_IB));
+    steps("an entry without words", channel, plain(KIND_ERROR), pusher_stopped(after, PUSHER_IB));
 }
 
-/* "each advance copies the read address to it and sets its valid flag. NV04-style leaves it." */
+/* S12: dma_mget and its valid flag, in either mode. */
 static void test_mget(void)
 {
     struct channel channel = reading(4, MODE_IB, false);
@@ -793,7 +807,7 @@ static void test_mget(void)
     channel.dma_mget = after.dma_mget = 0x77;
     after.get = after.dma_mget = 4;
     after.dma_mget_valid = true;
-    steps("each advance copies the read address to it", channel, plain(KIND_COMMAND), after);
+    steps("dma_mget goes with the advance", channel, plain(KIND_COMMAND), after);
     channel.not_main = after.not_main = true;
     after.dma_mget = 0x77;
     after.dma_mget_valid = false;
@@ -803,10 +817,10 @@ static void test_mget(void)
     channel.dma_mget = 0x77;
     after = channel;
     after.get = 4;
-    steps("NV04-style leaves it", channel, plain(KIND_COMMAND), after);
+    steps("not in NV04-style", channel, plain(KIND_COMMAND), after);
 }
 
-/* A long form whose count word and parameters come by other entries. */
+/* S7, S14: a long form whose count word and parameters come by other entries. */
 static void test_entry_ends(void)
 {
     static const uint32_t kinds[] = {KIND_ENTRY, KIND_COMMAND, KIND_ENTRY, KIND_COUNT,
@@ -829,37 +843,38 @@ static void test_entry_ends(void)
 
 /* ---- The puller ---- */
 
-/* One parameter of a method is taken; `after` is the channel with what the puller changes, as yet without
- * the pusher's part. */
+/* P3, P22: one parameter of a method is taken; `after` is the channel with what the puller changes, as yet
+ * without the pusher's part. */
 static void pulls(const char *sentence, struct channel before, uint32_t kind, uint32_t parameter,
                   struct channel after)
 {
     steps(sentence, before, method(kind, before.subchannel, 4 * before.method, parameter), submitted(after));
 }
 
-/* The puller refuses a parameter: nothing but the stop and the pusher's part. */
+/* P20, P21: a parameter stops the puller. Nothing comes of it but the stop and the pusher's part. */
 static void fails(const char *sentence, struct channel before, uint32_t error)
 {
     steps(sentence, before, plain(KIND_ERROR), puller_stopped(submitted(before), error));
 }
 
+/* P1, P2, P4, P5: objects to bind, and handles without one. */
 static void test_bind(uint32_t level)
 {
     struct channel channel = taking(level, 0x00, 0x100);
     struct channel after = channel;
 
     after.engines[3] = after.last_engine = 5;
-    pulls("lookup takes the lowest matching entry, bind the engine", channel, KIND_BIND, 0xa0, after);
+    pulls("of two entries the lower one is bound", channel, KIND_BIND, 0xa0, after);
     scene.words[0] = 0x600;
     after.engines[3] = after.last_engine = 8;
-    pulls("engine (bits 4-0)", channel, KIND_BIND, 0xa5, after);
+    pulls("an engine with bits above it", channel, KIND_BIND, 0xa5, after);
     scene.words[0] = 0x200;
     after = channel;
     after.engines[3] = 0;
-    steps("Engine 0 is SOFTWARE: the binding is stored, then EMPTY_SUBCHANNEL", channel, plain(KIND_ERROR),
+    steps("engine 0 is bound before the error", channel, plain(KIND_ERROR),
           puller_stopped(submitted(after), PULLER_EMPTY_SUBCHANNEL));
     scene.words[0] = 0xa0;
-    fails("none is CACHE_ERROR NO_HASH", channel, PULLER_NO_HASH);
+    fails("a handle that no entry has", channel, PULLER_NO_HASH);
     scene.words[0] = 0x700;
     scene.lent.table_count = 24;
     fails("an entry that isn't lent", channel, PULLER_NO_HASH);
@@ -867,6 +882,7 @@ static void test_bind(uint32_t level)
     fails("an empty table", channel, PULLER_NO_HASH);
 }
 
+/* P18, P19: methods for the engine, around those that are looked up. */
 static void test_forward(uint32_t level)
 {
     static const uint32_t numbers[] = {0x100, 0x17c, 0x180, 0x1fc, 0x200, 0x1ffc};
@@ -877,15 +893,15 @@ static void test_forward(uint32_t level)
         struct channel after = channel;
 
         after.last_engine = 19;
-        pulls("for 0x180 to 0x1fc the parameter becomes the looked-up address", channel, KIND_FORWARD,
-              looks ? 0xa2 : 0x300, after);
+        pulls("a method for the engine", channel, KIND_FORWARD, looks ? 0xa2 : 0x300, after);
         channel.engines[3] = 0;
-        fails("Engine 0: EMPTY_SUBCHANNEL", channel, PULLER_EMPTY_SUBCHANNEL);
+        fails("nothing is bound", channel, PULLER_EMPTY_SUBCHANNEL);
         scene.words[0] = 0x301;
         fails("the lookup comes first", channel, looks ? PULLER_NO_HASH : PULLER_EMPTY_SUBCHANNEL);
     }
 }
 
+/* P6, P7, P8: the reference counter, and methods without effect. */
 static void test_ref_and_events(uint32_t level)
 {
     struct channel channel = taking(level, 0x50, 0xfffffffe);
@@ -893,16 +909,17 @@ static void test_ref_and_events(uint32_t level)
 
     after.ref = 0xfffffffe;
     if (level >= 1)
-        pulls("0x50: ref takes the parameter", channel, KIND_REF, 0xfffffffe, after);
+        pulls("the reference counter", channel, KIND_REF, 0xfffffffe, after);
     channel.method = 0x80 / 4;
     if (level >= 3)
-        pulls("0x80: an event, no effect", channel, KIND_EVENT, 0xfffffffe, channel);
+        pulls("0x80 has no effect", channel, KIND_EVENT, 0xfffffffe, channel);
     for (uint32_t number = 0x10; level >= 5 && number <= 0x24; number += 4) {
         channel.method = number / 4;
-        pulls("0x10 to 0x24: an event, no effect", channel, KIND_EVENT, 0xfffffffe, channel);
+        pulls("0x10 to 0x24 have no effect", channel, KIND_EVENT, 0xfffffffe, channel);
     }
 }
 
+/* P1, P2, P9, P10: objects for semaphores, of which three are good from level 4 on alone. */
 static void test_dma(uint32_t level)
 {
     static const uint32_t handles[] = {0x300, 0x400, 0x500, 0x100, 0x600, 0x700};
@@ -915,15 +932,15 @@ static void test_dma(uint32_t level)
         channel.dma_semaphore = 0xee;
         after.dma_semaphore = addresses[i];
         if (level < 4 && i < 3)
-            fails("class not 2, not write-only or page table absent: SEMAPHORE 1", channel,
-                  PULLER_SEMAPHORE_1);
+            fails("an object that is no good below level 4", channel, PULLER_SEMAPHORE_1);
         else
-            pulls("The address is stored", channel, KIND_DMA, addresses[i], after);
+            pulls("an object for semaphores", channel, KIND_DMA, addresses[i], after);
         scene.words[0] = 0x30002;
-        fails("0x60: lookup", channel, PULLER_NO_HASH);
+        fails("no object for semaphores", channel, PULLER_NO_HASH);
     }
 }
 
+/* P11, P12: offsets by their bits. */
 static void test_offset(uint32_t level)
 {
     static const struct {
@@ -953,14 +970,14 @@ static void test_offset(uint32_t level)
         after.semaphore_offset = rows[i].offset;
         after.offset_valid = level >= 4;
         if (error != 0)
-            fails("0x64: SEMAPHORE 1 and 3", channel, error);
+            fails("an offset with a wrong bit", channel, error);
         else
-            pulls("stored, and from 4 valid", channel, KIND_OFFSET, rows[i].offset, after);
+            pulls("an offset without one", channel, KIND_OFFSET, rows[i].offset, after);
     }
 }
 
-/* A channel about to acquire or release the value 11 at semaphore word 1, bound and valid. The offset is
- * "rounded down". */
+/* P13, P14: a channel about to acquire or release the value 11 at semaphore word 1, which has what its level
+ * asks for and not what others do. The offset isn't that of the word's first byte. */
 static struct channel semaphoring(uint32_t level, uint32_t number)
 {
     struct channel channel = taking(level, number, 11);
@@ -971,36 +988,39 @@ static struct channel semaphoring(uint32_t level, uint32_t number)
     return channel;
 }
 
+/* P13, P14: words that aren't lent, and a semaphore that isn't set, which is told first. */
 static void test_semaphore_errors(uint32_t level, uint32_t number)
 {
     uint32_t past = level < 4 ? PULLER_SEMAPHORE_2 : PULLER_SEMAPHORE_4;
     struct channel channel = semaphoring(level, number);
 
     scene.lent.semaphore_count = 1;
-    fails("Past its end: SEMAPHORE 2 below level 4, 4 from there", channel, past);
+    fails("one semaphore word past the lent ones", channel, past);
     channel.semaphore_offset = UINT32_MAX;
-    fails("Past its end, far", channel, past);
+    fails("a semaphore word far past the lent ones", channel, past);
     channel.dma_semaphore = level < 4 ? 0 : 1;
     channel.offset_valid = level < 4;
-    fails("below level 4 unbound, from 4 offset not valid: SEMAPHORE 2", channel, PULLER_SEMAPHORE_2);
+    fails("a semaphore that isn't set", channel, PULLER_SEMAPHORE_2);
 }
 
+/* P14, P15: an acquire that finds its value at the last lent word, and those that wait. */
 static void test_acquire(uint32_t level)
 {
     struct channel channel = semaphoring(level, 0x68);
     struct channel after = channel;
 
     scene.lent.semaphore_count = 2;
-    pulls("Acquire goes on when equal", channel, KIND_ACQUIRE, 11, channel);
+    pulls("an acquire that finds its value", channel, KIND_ACQUIRE, 11, channel);
     for (uint32_t value = 10; value <= 12; value += 2) {
         scene.words[0] = value;
         after.acquire_active = true;
         after.acquire_value = value;
-        pulls("else is active and waits, its value stored", channel, KIND_WAIT, value, after);
+        pulls("an acquire that waits", channel, KIND_WAIT, value, after);
     }
     test_semaphore_errors(level, 0x68);
 }
 
+/* P14, P17: a release of the last lent word. */
 static void test_release(uint32_t level)
 {
     struct channel channel = semaphoring(level, 0x6c);
@@ -1008,12 +1028,11 @@ static void test_release(uint32_t level)
     scene.lent.semaphore_count = 2;
     scene.words[0] = 0xfeedf00d;
     scene.expected[1] = 0xfeedf00d;
-    pulls("Release writes that word only", channel, KIND_RELEASE, 0xfeedf00d, channel);
+    pulls("a release", channel, KIND_RELEASE, 0xfeedf00d, channel);
     test_semaphore_errors(level, 0x6c);
 }
 
-/* "A retry makes only the end test and the comparison; equal clears active." So at any level, neither bound
- * nor valid. */
+/* S5, P16, P21: a retry at any level, with no object and no valid offset. */
 static void test_retry(uint32_t level)
 {
     struct channel channel = taking(level, 0x50, 7);
@@ -1025,25 +1044,26 @@ static void test_retry(uint32_t level)
     after = channel;
     after.acquire_active = false;
     scene.lent.semaphore_count = 2;
-    steps("equal clears active", channel, plain(KIND_ACQUIRE), after);
+    steps("a retry that finds its value", channel, plain(KIND_ACQUIRE), after);
     for (uint32_t value = 10; value <= 12; value += 2) {
         channel.acquire_value = value;
-        steps("unequal waits", channel, plain(KIND_WAIT), channel);
+        steps("a retry that waits", channel, plain(KIND_WAIT), channel);
     }
     scene.lent.semaphore_count = 1;
-    steps("a retry has no advance and stays active", channel, plain(KIND_ERROR),
+    steps("a retry past the lent words, still active", channel, plain(KIND_ERROR),
           puller_stopped(channel, level < 4 ? PULLER_SEMAPHORE_2 : PULLER_SEMAPHORE_4));
 }
 
 /* ---- The printed example ---- */
 
+/* S30, T5: the kinds' names by their numbers. */
 static const char *const kind_names[] = {"",      "command", "count",   "bind",    "ref",    "event",
                                          "dma",   "offset",  "acquire", "release", "wait",   "forward",
                                          "error", "entry",   "discard", "idle",    "stopped"};
 
 _Static_assert(sizeof kind_names / sizeof kind_names[0] == KIND_LAST + 1, "every kind has a name");
 
-/* The line that the paper's program prints for a step. */
+/* T3, T4, T10: the line that the program prints for a step. */
 static int print_step(char *out, size_t room, unsigned step, uint64_t get, struct answer answer)
 {
     int length = snprintf(out, room, "step=%u get=%" PRIu64 " kind=%s", step, get, kind_names[answer.kind]);
@@ -1054,6 +1074,7 @@ static int print_step(char *out, size_t room, unsigned step, uint64_t get, struc
     return length + snprintf(out + length, room - (size_t)length, "\n");
 }
 
+/* T3, T4, T7, S8: the printed example, step by step. */
 static void test_printed(void)
 {
     static const uint32_t words[] = {0x00040050, 0x00000007};
@@ -1078,12 +1099,12 @@ static void test_printed(void)
     check(model_step(&channel, &lent).kind == KIND_IDLE, "a further step is idle", 3, 0);
     snprintf(text + length, sizeof text - (size_t)length, "end=idle steps=2 get=%" PRIu64 " ref=%u\n",
              channel.get, channel.ref);
-    check(strcmp(text, printed) == 0, "it prints exactly", 3, 0);
+    check(strcmp(text, printed) == 0, "the printed example", 3, 0);
 }
 
 /* ---- STATE, read a second time ---- */
 
-/* The widths that are the same in both modes. */
+/* R32: the widths that are the same in both modes. */
 static const struct {
     unsigned at;
     unsigned width;
@@ -1091,6 +1112,7 @@ static const struct {
     {AT_COUNT, 24}, {AT_SLI_MASK, 12}, {AT_METHOD, 11}, {AT_LAST_ENGINE, 5}, {AT_SUBCHANNEL, 3},
 };
 
+/* R32: the same widths, and those of the eight engines. */
 static bool widths_hold(const struct record *record)
 {
     for (unsigned i = 0; i < sizeof widths / sizeof widths[0]; i++)
@@ -1102,6 +1124,7 @@ static bool widths_hold(const struct record *record)
     return true;
 }
 
+/* R34: the numbers that opening could have been given. */
 static bool combination_holds(const struct record *record)
 {
     uint32_t level = record->word[AT_LEVEL];
@@ -1113,7 +1136,7 @@ static bool combination_holds(const struct record *record)
     return mode == MODE_NV04 ? order == 0 : level >= 4 && order <= 12;
 }
 
-/* Whether the paper lets a channel step, by its words: to be asked where the combination holds. */
+/* R32, R33: the widths that the mode gives, and multiples of 4: to be asked where the combination holds. */
 static bool addresses_hold(const struct record *record)
 {
     bool ib = record->word[AT_MODE] == MODE_IB;
@@ -1148,7 +1171,8 @@ static struct record draw_record(struct draw *draw)
     return record;
 }
 
-/* STATE exactly where the widths and combinations don't hold; no refusal changes channel or memory. */
+/* R13, R26, R27, R31: STATE exactly where the second reading has it, of a step and of a put. No refusal
+ * changes channel or memory. */
 static void test_state(struct draw *draw)
 {
     struct record record = draw_record(draw);
@@ -1224,7 +1248,7 @@ static void draw_pools(struct draw *draw)
     }
 }
 
-/* At most the semaphore word of a release is another than before. */
+/* S3, P17: at most the semaphore word of a release is another than before. */
 static void check_memory(const uint32_t *before, const struct lent *lent, uint32_t offset,
                          struct answer answer)
 {
@@ -1252,7 +1276,7 @@ static bool same_setup(const struct channel *before, const struct channel *after
            first.word[AT_SLI_MASK] == second.word[AT_SLI_MASK];
 }
 
-/* What every step keeps, whatever it does. */
+/* S3, S4, S8, S27, S31, P20: what every step keeps, whatever it does. */
 static void check_kept(const struct channel *before, const struct channel *after, struct answer answer)
 {
     struct setting setting = before->setup.setting;
@@ -1273,7 +1297,7 @@ static void check_kept(const struct channel *before, const struct channel *after
           setting.level, setting.mode);
 }
 
-/* Put is refused by its own rule alone. */
+/* R7, S31: put is refused by its own rule alone. */
 static void run_put(struct draw *draw, struct channel *channel)
 {
     struct setting setting = channel->setup.setting;
@@ -1300,7 +1324,8 @@ static void run_step(struct draw *draw, struct channel *channel)
     check_memory(semaphores, &lent, before.semaphore_offset, answer);
 }
 
-/* A channel as opening leaves it, also a refused one, over puts and steps, each with its own lent memory. */
+/* S31: a channel as opening leaves it, also a refused one, over puts and steps, each with its own lent
+ * memory. */
 static void test_run(struct draw *draw)
 {
     struct setup setup = {draw_setting(draw), 0, 0, 0};

@@ -85,7 +85,7 @@ static uint32_t add_deltas(struct buffer *buffer, const struct record *before, c
     return deltas;
 }
 
-/* Counts what stopped the channel, where the step did. */
+/* S26, P23: counts what stopped the channel, by its number, where the step did. */
 static void count_error(struct vectors *vectors, const struct channel *channel, struct answer answer,
                         bool was_retry)
 {
@@ -99,11 +99,12 @@ static void count_error(struct vectors *vectors, const struct channel *channel, 
         count_one(vectors, RETRY_FAULT, channel->puller_error);
 }
 
+/* S13, S29, S30: the event of a step, with its fields, and every word of the channel that is another. */
 struct answer add_step(struct vectors *vectors, struct buffer *buffer, size_t header,
                        struct channel *channel, const struct lent *lent)
 {
     struct record before = record_of(channel);
-    /* The one semaphore word that a step can write. */
+    /* S3, P17: the one semaphore word that a step can write. */
     uint32_t place = channel->semaphore_offset / 4;
     bool is_lent = place < lent->semaphore_count;
     uint32_t value = is_lent ? lent->semaphores[place] : 0;

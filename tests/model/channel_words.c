@@ -33,7 +33,7 @@ static void emit(struct text *text, uint32_t word)
 /* The table has a software object, one that is no good for semaphores, and good ones after them. */
 enum { SOFTWARE, ODD, GOOD };
 
-/* Small handles, so that they also come by chance, 0 among them; large ones now and then. */
+/* P1, P2: small handles, so that they also come by chance, 0 among them; large ones now and then. */
 static void draw_table(struct draw *draw, struct memory *memory)
 {
     uint32_t objects = GOOD + 1 + draw_below(draw, 2);
@@ -47,7 +47,7 @@ static void draw_table(struct draw *draw, struct memory *memory)
         entry[1] = 1 + draw_below(draw, 31);
         entry[2] = 1 + draw_below(draw, 0xffff);
         entry[3] = 0x30002;
-        /* Bits that the paper doesn't name. */
+        /* P1: bits without a meaning. */
         if (draw_once_in(draw, 8))
             entry[1] |= draw_number(draw) << 5;
         if (draw_once_in(draw, 8))
@@ -79,7 +79,8 @@ static uint32_t no_handle(struct text *text)
 
 /* ---- Commands ---- */
 
-/* A command of so many parameters, increasing where that matters, else in any form that there is. */
+/* W1, W2, W5, W14: a command of so many parameters, increasing where that matters, else in any form that
+ * there is. */
 static void emit_methods(struct text *text, uint32_t count, uint32_t subchannel, uint32_t method,
                          bool increasing)
 {
@@ -110,12 +111,13 @@ static uint32_t draw_subchannel(struct text *text)
     return draw_below(text->draw, SUBCHANNELS);
 }
 
-/* A command with count 0. */
+/* S17: a command with count 0. */
 static void emit_nothing(struct text *text)
 {
     emit(text, draw_number(text->draw) & 0x0000fffc);
 }
 
+/* P4: an object that can be bound. */
 static void emit_bind(struct text *text)
 {
     uint32_t subchannel = draw_subchannel(text);
@@ -135,7 +137,7 @@ static uint32_t draw_bound(struct text *text)
     return subchannel;
 }
 
-/* Methods for the engine; their parameters are handles, as some are looked up. */
+/* P18, P19: methods for the engine; their parameters are handles, as some are looked up. */
 static void emit_forward(struct text *text)
 {
     static const uint32_t methods[] = {0x100, 0x17c, 0x180, 0x1bc, 0x1f8, 0x1fc, 0x200, 0x1ff4};
@@ -152,7 +154,7 @@ static void emit_forward(struct text *text)
         emit(text, good_handle(text));
 }
 
-/* "An increasing run from 0x1ffc [...]: its second parameter goes to method 0 and binds." */
+/* S25, P4: a run from 0x1ffc on, which binds. */
 static void emit_wrap(struct text *text)
 {
     if (text->bound == 0) {
@@ -164,6 +166,7 @@ static void emit_wrap(struct text *text)
     emit(text, good_handle(text));
 }
 
+/* P6: the reference counter, where the level has it. */
 static void emit_ref(struct text *text)
 {
     uint32_t subchannel = draw_subchannel(text);
@@ -174,6 +177,7 @@ static void emit_ref(struct text *text)
         emit_forward(text);
 }
 
+/* P7, P8: methods without effect, where the level has them. */
 static void emit_events(struct text *text)
 {
     uint32_t count = 1 + draw_below(text->draw, 4);
@@ -195,7 +199,8 @@ static uint32_t draw_value(struct text *text)
     return draw_below(text->draw, 3);
 }
 
-/* The semaphore's object and offset, then at times an acquire and a release in the same run. */
+/* P10, P11, P12: the semaphore's object and offset, then at times an acquire and a release in the same
+ * run. */
 static void emit_semaphore_setup(struct text *text)
 {
     uint32_t count = 2 + draw_below(text->draw, 3);
@@ -210,6 +215,7 @@ static void emit_semaphore_setup(struct text *text)
         text->has_semaphore = true;
 }
 
+/* P15, P17: acquire or release, once the semaphore is set. */
 static void emit_semaphore(struct text *text)
 {
     uint32_t method = draw_once_in(text->draw, 2) ? 0x68 : 0x6c;
@@ -223,6 +229,7 @@ static void emit_semaphore(struct text *text)
         emit_method(text, subchannel, method, draw_value(text));
 }
 
+/* S19, S24: a conditional, from which on methods are taken or discarded. */
 static void emit_conditional(struct text *text)
 {
     uint32_t mask = draw_number(text->draw) >> 20;
@@ -241,7 +248,7 @@ static void emit_conditional(struct text *text)
     emit(text, 0x00010000 | mask << 4);
 }
 
-/* The word of a jump, old or new; the target lies within the words. */
+/* W6, W7: the word of a jump, old or new; the target lies within the words. */
 static uint32_t jump_to(struct text *text, uint32_t place)
 {
     bool is_old = text->setting.level < 2 || draw_once_in(text->draw, 2);
@@ -249,7 +256,7 @@ static uint32_t jump_to(struct text *text, uint32_t place)
     return is_old ? 0x20000000 | 4 * place : 4 * place | 1;
 }
 
-/* A jump over words that would stop the channel. */
+/* S20: a jump over words that would stop the channel. */
 static void emit_jump(struct text *text)
 {
     uint32_t skipped = draw_below(text->draw, 3);
@@ -263,6 +270,7 @@ static void emit_jump(struct text *text)
         emit(text, draw_number(text->draw) | 3);
 }
 
+/* S21: a call, where there is a subroutine. */
 static void emit_call(struct text *text)
 {
     if (text->subroutine != 0 && !text->is_inside)
@@ -294,8 +302,8 @@ static void emit_commands(struct text *text, uint32_t end)
         kinds[draw_below(text->draw, sizeof kinds / sizeof kinds[0])](text);
 }
 
-/* In NV04-style from level 2 on, a subroutine and a jump over it. What it binds isn't bound until it is
- * called. */
+/* S21, S22: in NV04-style from level 2 on, a subroutine and a jump over it. What it binds isn't bound until
+ * it is called. */
 static void emit_subroutine(struct text *text)
 {
     if (text->setting.mode == MODE_IB || text->setting.level < 2 || draw_once_in(text->draw, 3))
@@ -326,7 +334,7 @@ static void end_loop(struct text *text)
         emit(text, jump_to(text, text->start));
 }
 
-/* A call of the next word, and another call inside. */
+/* S21: a call of the next word, and another call inside. */
 static void end_call(struct text *text)
 {
     uint32_t place = text->memory->word_count;
@@ -336,7 +344,7 @@ static void end_call(struct text *text)
     emit(text, 4 * place | 2);
 }
 
-/* A method that some levels lack, first of its run or met by the way. */
+/* S24: a method that some levels lack, first of its run or met by the way. */
 static void end_non_cache(struct text *text)
 {
     static const uint32_t methods[] = {0x04, 0x0c, 0x10, 0x28, 0x50, 0x54, 0x60, 0x70, 0x80, 0x84, 0xfc};
@@ -346,11 +354,13 @@ static void end_non_cache(struct text *text)
         emit(text, good_handle(text));
 }
 
+/* S22: a return outside of a subroutine. */
 static void end_return(struct text *text)
 {
     emit(text, 0x00020000);
 }
 
+/* S23: a word of no form. */
 static void end_reserved(struct text *text)
 {
     static const uint32_t words[] = {0x00000003, 0x80000000, 0x00020004, 0x00010008, 0xe0000000, 0x60000000};
@@ -358,11 +368,13 @@ static void end_reserved(struct text *text)
     emit(text, draw_among(text->draw, words, sizeof words / sizeof words[0]));
 }
 
+/* P2, P4: a handle without an object, to be bound. */
 static void end_no_bind(struct text *text)
 {
     emit_method(text, 5, 0x00, no_handle(text));
 }
 
+/* P2, P19: the same for the engine. */
 static void end_no_forward(struct text *text)
 {
     uint32_t method = 0x180 + 4 * draw_below(text->draw, 32);
@@ -370,17 +382,19 @@ static void end_no_forward(struct text *text)
     emit_method(text, 5, method, no_handle(text));
 }
 
+/* P2, P9: the same for semaphores. */
 static void end_no_dma(struct text *text)
 {
     emit_method(text, 6, 0x60, no_handle(text));
 }
 
+/* P5: an object of engine 0. */
 static void end_software(struct text *text)
 {
     emit_method(text, draw_subchannel(text), 0x00, handle(text, SOFTWARE));
 }
 
-/* A subchannel that nothing was bound to; where all are bound, the software object. */
+/* P18: a subchannel that nothing was bound to; where all are bound, the software object. */
 static void end_empty(struct text *text)
 {
     for (uint32_t subchannel = 0; subchannel < SUBCHANNELS; subchannel++)
@@ -391,7 +405,7 @@ static void end_empty(struct text *text)
     end_software(text);
 }
 
-/* Acquire or release. */
+/* P13, P15, P17: acquire or release, whether or not the semaphore is set. */
 static void end_semaphore(struct text *text)
 {
     uint32_t method = draw_once_in(text->draw, 2) ? 0x68 : 0x6c;
@@ -399,13 +413,14 @@ static void end_semaphore(struct text *text)
     emit_method(text, 3, method, draw_value(text));
 }
 
-/* An object that is no good for semaphores; at address 0 it is bound, which counts as unbound. */
+/* P9, P10, P13: an object that is no good for semaphores; at address 0 it is bound, but is none. */
 static void end_class(struct text *text)
 {
     emit_method(text, 0, 0x60, handle(text, ODD));
     end_semaphore(text);
 }
 
+/* P11, P12: an offset with a wrong bit, at some levels or at all. */
 static void end_offset(struct text *text)
 {
     static const uint32_t offsets[] = {1, 2, 0xffd, 0x1000, 0x1001, 0x10000, 0x10002, 0x20000, 0x80000000};
@@ -414,7 +429,7 @@ static void end_offset(struct text *text)
     end_semaphore(text);
 }
 
-/* An offset right past the semaphore words, or far past them. */
+/* P14: an offset right past the semaphore words, or far past them. */
 static void end_past(struct text *text)
 {
     uint32_t offset = draw_once_in(text->draw, 2) ? 0xffc : 4 * text->memory->semaphore_count;
@@ -474,8 +489,8 @@ static void (*const endings[ENDINGS])(struct text *) = {
 
 /* ---- IB entries ---- */
 
-/* An entry over so many words from a place on; one in a few has no size, an address beyond the words or a
- * size that goes beyond them. "bits 0, 1, 40 ignored" */
+/* E1, E4, E5: an entry over so many words from a place on, with any of the bits 0, 1 and 40; one in a few has
+ * no size, an address beyond the words or a size that goes beyond them. */
 static uint64_t draw_entry(struct draw *draw, uint64_t place, uint64_t size)
 {
     uint64_t not_main = draw_below(draw, 2);
@@ -495,7 +510,8 @@ static uint64_t draw_entry(struct draw *draw, uint64_t place, uint64_t size)
     }
 }
 
-/* Entries that cover the words one after the other, wherever commands end, and then start over. */
+/* S7, S14, E3, E6: entries that cover the words one after the other, wherever commands end, and then start
+ * over. */
 static void draw_entries(struct draw *draw, const struct setup *setup, struct memory *memory)
 {
     uint32_t places = UINT32_C(1) << setup->ib_order;

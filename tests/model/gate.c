@@ -2,23 +2,23 @@
 
 /* ---- Refusals ---- */
 
-/* "NV04-style only" */
+/* G21, G32: NV04-style, with SLI as a number. */
 static struct setting setting_of(const struct submission *submission)
 {
     return (struct setting){submission->level, MODE_NV04, submission->sli != 0};
 }
 
-/* "Gatekeeper: 1, 4, 8, 9." In NV04-style a setting meets 1 and 4 alone. */
+/* R21, R28: the gatekeeper's order. In NV04-style a setting meets LEVEL and SLI alone. */
 static uint32_t submission_refusal(const struct submission *submission)
 {
     uint32_t refusal = model_setting_refusal(setting_of(submission));
 
     if (refusal != REFUSAL_NONE)
         return refusal;
-    /* "pushbuffer or semaphore memory over 1,048,576 words", by a part word too */
+    /* R8: too many bytes, by a part word too. */
     if (submission->words_length > 4 * (size_t)SIZE_LIMIT)
         return REFUSAL_SIZE;
-    /* "words lent as bytes not a multiple of 4, map not one byte a word, or permit list not 2,048 bytes" */
+    /* R9: of the three lengths one is wrong. */
     if (submission->words_length % 4 != 0 || submission->map_length != submission->words_length / 4 ||
         submission->permit_length != PERMIT_BYTES)
         return REFUSAL_LENGTH;
@@ -27,12 +27,14 @@ static uint32_t submission_refusal(const struct submission *submission)
 
 /* ---- One pair ---- */
 
+/* G21: places count words. */
 struct code model_code(const struct submission *submission)
 {
     return (struct code){setting_of(submission), submission->words, (uint32_t)(submission->words_length / 4),
                          submission->permit};
 }
 
+/* W17: the lowest byte first. */
 static uint32_t word_at(const struct code *code, uint32_t place)
 {
     const uint8_t *bytes = code->words + 4 * (size_t)place;
@@ -40,7 +42,7 @@ static uint32_t word_at(const struct code *code, uint32_t place)
     return bytes[0] | (uint32_t)bytes[1] << 8 | (uint32_t)bytes[2] << 16 | (uint32_t)bytes[3] << 24;
 }
 
-/* The method of parameter k: "an increasing method then rises by one modulo 2,048". */
+/* G29: the method of parameter k. */
 static uint32_t method_of(struct reading command, uint32_t k)
 {
     uint32_t method = command.value[2] / 4;
@@ -48,13 +50,13 @@ static uint32_t method_of(struct reading command, uint32_t k)
     return command.number == READING_INCREASING ? (method + k) % METHODS : method;
 }
 
-/* "bit (m mod 8) of byte 256 times subchannel plus m/8" */
+/* G23: the bit of a method, given by its number. */
 static bool is_permitted(const struct code *code, uint32_t subchannel, uint32_t method)
 {
     return (code->permit[METHOD_BYTES * subchannel + method / 8] >> method % 8 & 1) != 0;
 }
 
-/* "6 parameters past the end; 7 NON_CACHE method; 8 method not permitted" */
+/* G6, G7, G8, G26: reasons 6 to 8, each of them for all parameters before the next. */
 static uint32_t run_reason(const struct code *code, uint32_t place, struct reading command)
 {
     uint32_t count = command.value[0];
@@ -70,7 +72,7 @@ static uint32_t run_reason(const struct code *code, uint32_t place, struct readi
     return REASON_NONE;
 }
 
-/* Reasons 3 to 8. */
+/* G3, G4, G5: reasons 3 to 8, of which 6 to 8 are those of a run. The long form is reserved in NV04-style. */
 static uint32_t command_reason(const struct code *code, struct pair pair, struct reading command)
 {
     switch (command.number) {
@@ -78,10 +80,10 @@ static uint32_t command_reason(const struct code *code, struct pair pair, struct
     case READING_NON_INCREASING:
         return run_reason(code, pair.place, command);
     case READING_CALL:
-        /* "4 call in subroutine" */
+        /* G4: calls don't nest. */
         return pair.state == STATE_SUBROUTINE ? REASON_CALL : REASON_NONE;
     case READING_RETURN:
-        /* "5 return in main" */
+        /* G5: there is nowhere to return to. */
         return pair.state == STATE_MAIN ? REASON_RETURN : REASON_NONE;
     case READING_RESERVED:
         return REASON_RESERVED;
@@ -90,8 +92,7 @@ static uint32_t command_reason(const struct code *code, struct pair pair, struct
     }
 }
 
-/* "A return has no next pair; a jump's is its target, another's the word after its parameters, in the same
- * state." */
+/* G27: how many parameters a command has, and its next pairs. */
 static struct follow follow_of(struct pair pair, struct reading command)
 {
     struct pair after = {pair.place + 1, pair.state};
@@ -106,7 +107,7 @@ static struct follow follow_of(struct pair pair, struct reading command)
     case READING_JUMP:
         return (struct follow){0, 1, {target}};
     case READING_CALL:
-        /* "A call is tried for its target (in a subroutine) and then for the word after it (in main)." */
+        /* G27: first where it goes, then where it comes back to. */
         target.state = STATE_SUBROUTINE;
         return (struct follow){0, 2, {target, after}};
     case READING_SLI:
@@ -117,7 +118,7 @@ static struct follow follow_of(struct pair pair, struct reading command)
     }
 }
 
-/* "9 a marked place among its parameters" */
+/* G9: whether one of these places is marked. */
 static bool is_marked(const uint8_t *map, uint32_t count)
 {
     uint8_t marks = 0;
@@ -127,8 +128,7 @@ static bool is_marked(const uint8_t *map, uint32_t count)
     return marks != 0;
 }
 
-/* "10 target past the end; 12 next place is the end, in a subroutine; 11 next place not marked for its
- * state." Only a target can lie past the end; "The end, one past the last word, needs no mark." */
+/* G10, G11, G12, G28: the reasons of a next pair. Only a target can lie past the end. */
 static uint32_t next_reason(const struct code *code, const uint8_t *map, struct pair next)
 {
     if (next.place > code->count)
@@ -140,8 +140,8 @@ static uint32_t next_reason(const struct code *code, const uint8_t *map, struct 
     return REASON_NONE;
 }
 
-/* "At one pair they are tried in that order." So they are where a call's target is tried for all of them and
- * then the word after it, which can have 11 alone. */
+/* G26: the order at one pair. Of a call the target is tried for 10 to 12 and then the word after it, which
+ * can have 11 alone. */
 uint32_t model_pair_reason(const struct code *code, const uint8_t *map, struct pair pair,
                            struct follow *follow)
 {
@@ -160,7 +160,7 @@ uint32_t model_pair_reason(const struct code *code, const uint8_t *map, struct p
 
 /* ---- The judgement ---- */
 
-/* "the count of set permit bits" */
+/* G24: how many bits of the list are set. */
 static uint32_t permit_count(const uint8_t *permit)
 {
     uint32_t count = 0;
@@ -171,7 +171,7 @@ static uint32_t permit_count(const uint8_t *permit)
     return count;
 }
 
-/* The lowest place with a "map byte over 3", or `count` where there is none. */
+/* G1: the lowest place with a byte that is no mark, or `count` where there is none. */
 static uint32_t first_over(const uint8_t *map, uint32_t count)
 {
     uint32_t place = 0;
@@ -181,7 +181,7 @@ static uint32_t first_over(const uint8_t *map, uint32_t count)
     return place;
 }
 
-/* "main before subroutine" */
+/* G25: at one place main comes first. */
 static uint32_t place_reason(const struct code *code, const uint8_t *map, uint32_t place,
                              struct follow *follow)
 {
@@ -195,9 +195,9 @@ static uint32_t place_reason(const struct code *code, const uint8_t *map, uint32
     return REASON_NONE;
 }
 
-/* Reasons from 3 on, "places rising". Where a pair has no reason none of its parameters is marked, so that
- * the next pair comes after them: whatever the map, each word is looked at as a parameter at most once for
- * each state. At the first reason the judgement ends. So the time is linear in the words. */
+/* G25: reasons from 3 on, from the lowest place up. Where a pair has no reason none of its parameters is
+ * marked, so that the next pair comes after them: whatever the map, each word is looked at as a parameter at
+ * most once for each state. At the first reason the judgement ends. So the time is linear in the words. */
 static struct judgement judge_places(const struct code *code, const uint8_t *map, uint32_t permitted)
 {
     uint32_t place = 0;
@@ -213,6 +213,7 @@ static struct judgement judge_places(const struct code *code, const uint8_t *map
     return (struct judgement){REASON_NONE, REFUSAL_NONE, permitted, 0};
 }
 
+/* G24, G25, G31: the judgement. */
 struct judgement model_judge(const struct submission *submission)
 {
     const uint8_t *map = submission->map;
@@ -224,11 +225,11 @@ struct judgement model_judge(const struct submission *submission)
         return (struct judgement){REASON_NONE, refusal, 0, 0};
     code = model_code(submission);
     permitted = permit_count(submission->permit);
-    /* "1 map byte over 3 (lowest place, first of all)" */
+    /* G1: before any other reason. */
     over = first_over(map, code.count);
     if (over < code.count)
         return (struct judgement){REASON_MAP_BYTE, REFUSAL_NONE, permitted, over};
-    /* "2 place 0 lacks main"; "No words: accepted." */
+    /* G2, G30: without words there is no place 0 to be marked. */
     if (code.count != 0 && (map[0] & STATE_MAIN) == 0)
         return (struct judgement){REASON_START, REFUSAL_NONE, permitted, 0};
     return judge_places(&code, map, permitted);

@@ -1,11 +1,11 @@
-/* A model of the gatekeeper, written from the paper alone: the judgement of words with their map and permit
- * list, and what one pair of a place and a state comes to. */
+/* A model of the gatekeeper, written from the rules of docs/CARD.md alone, never from the code: the judgement
+ * of words with their map and permit list, and what one pair of a place and a state comes to. */
 #ifndef MODEL_GATE_H
 #define MODEL_GATE_H
 
 #include "word.h"
 
-/* "Reasons, with the place"; 0 stands for none. */
+/* G1, G2, G3, G4, G5, G6, G7, G8, G9, G10, G11, G12: the reasons by their numbers; 0 stands for none. */
 enum {
     REASON_NONE = 0,
     REASON_MAP_BYTE = 1,
@@ -23,13 +23,14 @@ enum {
     REASON_COUNT
 };
 
-/* "Map byte: 0 not a start, 1 main, 2 inside a subroutine, 3 both." */
+/* G22: the marks of a map byte; a byte of 0 is no start. */
 enum { STATE_MAIN = 1, STATE_SUBROUTINE = 2, STATE_BOTH = 3 };
 
-/* "permit list not 2,048 bytes": 256 for each subchannel, a bit for each of its 2,048 methods. */
+/* R9, G23: the permit list has 256 bytes for each subchannel, a bit for each of its 2,048 methods. */
 enum { PERMIT_BYTES = 2048, METHOD_BYTES = 256, METHODS = 2048 };
 
-/* What the gatekeeper is lent. The words are little-endian bytes; SLI is off where it is 0, else on. */
+/* W17, G32: what the gatekeeper is lent. The words are little-endian bytes; SLI is off where it is 0, else
+ * on. */
 struct submission {
     uint32_t level;
     uint32_t sli;
@@ -41,8 +42,8 @@ struct submission {
     size_t permit_length;
 };
 
-/* "The answer also gives the count of set permit bits, 0 on a refusal". Accepted are words with neither a
- * reason nor a refusal; only a reason has a place. */
+/* G24, G31: accepted are words with neither a reason nor a refusal. Only a reason has a place, and no refusal
+ * has a count. */
 struct judgement {
     uint32_t reason;
     uint32_t refusal;
@@ -78,8 +79,8 @@ struct follow {
     struct pair next[2];
 };
 
-/* The first of the reasons 3 to 12 that a pair has, and what follows its command. Without a map, 9 and 11
- * are not tried: what is left are those that the path rule names. */
+/* G26, H2: the first of the reasons 3 to 12 that a pair has, and what follows its command. Without a map, 9
+ * and 11 are not tried: what is left are those that the path rule names. */
 uint32_t model_pair_reason(const struct code *code, const uint8_t *map, struct pair pair,
                            struct follow *follow);
 

@@ -206,6 +206,7 @@ static bool is_kept(const uint8_t *lent, const uint8_t *bytes, size_t length)
 
 /* ---- One submission ---- */
 
+/* G32: the parts of the answer, by the header's functions. */
 static struct judgement unpack(upborliya_answer answer)
 {
     return (struct judgement){upborliya_reason(answer), upborliya_refusal(answer), upborliya_count(answer),
@@ -222,7 +223,7 @@ static bool is_accepted(void)
     return archive.reason == REASON_NONE && archive.refusal == REFUSAL_NONE;
 }
 
-/* Asks the archive, which has to leave alone what it is lent. */
+/* R31: asks the archive, which has to leave alone what it is lent, refused or not. */
 static upborliya_answer ask(void)
 {
     const uint8_t *words = lend(ends.words, given.words, given.words_length);
@@ -241,7 +242,7 @@ static upborliya_answer ask(void)
     return answer;
 }
 
-/* The archive's judgement has to be the model's. */
+/* G31, G32: the archive's judgement has to be the model's, and the byte that is left free 0. */
 static void compare(void)
 {
     struct submission submission = submission_of(&given);
@@ -258,7 +259,7 @@ static void compare(void)
         counts.refusals[archive.refusal]++;
 }
 
-/* Runs accepted words on the model's channel. */
+/* G33, G34, G35, G36, G37: runs accepted words on the model's channel. */
 static void run(struct draw *draw)
 {
     struct submission submission = submission_of(&given);
@@ -272,7 +273,7 @@ static void run(struct draw *draw)
     counts.runs++;
 }
 
-/* The submission as it is, then, if it isn't refused, with the map of exactly the reached pairs. */
+/* H5, H6: the submission as it is, then, if it isn't refused, with the map of exactly the reached pairs. */
 static void test_submission(struct draw *draw)
 {
     struct path path;
@@ -343,8 +344,8 @@ static void give_uniform(uint32_t size, uint32_t word, uint8_t mark)
         set_word(&given, i, word);
 }
 
-/* As many words as there can be: count 0, conditionals, the longest run, old jumps to place 0, to the last
- * place and to the one before. */
+/* R8: as many words as there can be: count 0, conditionals, the longest run, old jumps to place 0, to the
+ * last place and to the one before. */
 static void test_uniforms(struct draw *draw)
 {
     static const uint32_t words[] = {0x00000000, 0x00010010, 0x1ffc0100, 0x20000000, 0x203ffffc, 0x203ffff8};
@@ -356,7 +357,7 @@ static void test_uniforms(struct draw *draw)
         }
 }
 
-/* Lengths at and around the most that may be lent, part words too. */
+/* R8, R9, R28: lengths at and around the most that may be lent, part words too. */
 static void test_sizes(void)
 {
     for (size_t length = 4 * SIZE_LIMIT - 4; length <= 4 * SIZE_LIMIT + 8; length++) {
@@ -387,7 +388,7 @@ static void fail_vast_at_fault(int number)
     fail_vast("a submission that is refused is not read");
 }
 
-/* "Gatekeeper: 1, 4, 8, 9." The length that has more than 32 bits is wrong, whichever it is. */
+/* R28: the gatekeeper's order. The length that has more than 32 bits is wrong, whichever it is. */
 static uint32_t vast_refusal(void)
 {
     if (vast.level > 5)
@@ -424,7 +425,7 @@ enum {
     PERMIT_LENGTHS = sizeof permit_lengths / sizeof permit_lengths[0]
 };
 
-/* Each length alone and with the others, at this level and SLI setting. */
+/* R8, R9: each length alone and with the others, at this level and SLI setting. */
 static void test_vast_lengths(uint32_t level, uint32_t sli)
 {
     vast = (struct submission){level, sli, ends.words, 0, ends.map, 0, ends.permit, 0};

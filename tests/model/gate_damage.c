@@ -142,7 +142,7 @@ static void damage_append(struct draw *draw, struct given *given)
 
 /* ---- Damage in view of a reason ---- */
 
-/* "1 map byte over 3": 4 or 255, one that has the right low bits, or any; now and then another. */
+/* G1: a byte of 4 or 255, one that has the right low bits, or any; now and then another. */
 static void damage_map_byte(struct draw *draw, struct given *given)
 {
     do {
@@ -154,7 +154,7 @@ static void damage_map_byte(struct draw *draw, struct given *given)
     } while (draw_once_in(draw, 4));
 }
 
-/* "2 place 0 lacks main" */
+/* G2: place 0 is no start, or inside alone. */
 static void damage_first(struct draw *draw, struct given *given)
 {
     given->map[0] = draw_once_in(draw, 2) ? 0 : STATE_SUBROUTINE;
@@ -167,7 +167,7 @@ static void replace(struct given *given, uint32_t place, uint32_t word)
         set_word(given, place, word);
 }
 
-/* "3 reserved word" */
+/* G3: words of no form, and the long form. */
 static void damage_reserved(struct draw *draw, struct given *given)
 {
     static const uint32_t words[] = {0x00000003, 0x80000000, 0x00020004, 0x00010008, 0x00030100,
@@ -177,7 +177,7 @@ static void damage_reserved(struct draw *draw, struct given *given)
     replace(given, draw_start(draw, given, is_any), word);
 }
 
-/* "4 call in subroutine": of a start that would do, of the end, or past it. */
+/* G4, G26: a call inside, of a start that would do, of the end, or past it. */
 static void damage_call(struct draw *draw, struct given *given)
 {
     uint32_t count = word_count(given);
@@ -187,13 +187,13 @@ static void damage_call(struct draw *draw, struct given *given)
     replace(given, draw_start(draw, given, is_inside), 4 * target | 2);
 }
 
-/* "5 return in main" */
+/* G5: a return in main. */
 static void damage_return(struct draw *draw, struct given *given)
 {
     replace(given, draw_start(draw, given, is_main), 0x00020000);
 }
 
-/* "6 parameters past the end", by one if there can be so many, or by any number. */
+/* G6: too many parameters, by one if there can be so many, or by any number. */
 static void damage_parameters(struct draw *draw, struct given *given)
 {
     uint32_t place = draw_start(draw, given, is_run);
@@ -205,7 +205,7 @@ static void damage_parameters(struct draw *draw, struct given *given)
         set_word(given, place, (word_of(given, place) & 0xe003ffff) | count << 18);
 }
 
-/* "7 NON_CACHE method", at some levels, permitted or not. */
+/* G7: a method that some levels lack, permitted or not. */
 static void damage_method(struct draw *draw, struct given *given)
 {
     static const uint32_t methods[] = {0x00, 0x04, 0x0c, 0x10, 0x24, 0x28, 0x4c, 0x50, 0x54,
@@ -221,7 +221,7 @@ static void damage_method(struct draw *draw, struct given *given)
         permit_run(given, place);
 }
 
-/* "8 method not permitted", any of a run's. */
+/* G8: a clear bit for any of a run's methods. */
 static void damage_permit(struct draw *draw, struct given *given)
 {
     uint32_t place = draw_start(draw, given, has_parameters);
@@ -237,7 +237,7 @@ static void damage_permit(struct draw *draw, struct given *given)
     set_permit(given, command.value[1], method % METHODS, false);
 }
 
-/* "An increasing run from 0x1ffc taken as ending there": method 0 is not permitted. */
+/* G8, G29: a run goes on past 0x1ffc, and method 0 is not permitted. */
 static void damage_wrap(struct draw *draw, struct given *given)
 {
     uint32_t place = draw_start(draw, given, is_wrap);
@@ -246,7 +246,7 @@ static void damage_wrap(struct draw *draw, struct given *given)
         set_permit(given, command_of(given, place).value[1], 0, false);
 }
 
-/* "9 a marked place among its parameters" */
+/* G9: a marked parameter. */
 static void damage_parameter(struct draw *draw, struct given *given)
 {
     uint32_t place = draw_start(draw, given, has_parameters);
@@ -256,7 +256,7 @@ static void damage_parameter(struct draw *draw, struct given *given)
         given->map[place + 1 + draw_below(draw, command_of(given, place).value[0])] = (uint8_t)mark;
 }
 
-/* "10 target past the end", by one word or by many. */
+/* G10: a target too far, by one word or by many. */
 static void damage_target(struct draw *draw, struct given *given)
 {
     uint32_t place = draw_start(draw, given, has_target);
@@ -268,7 +268,7 @@ static void damage_target(struct draw *draw, struct given *given)
         set_target(given, place, target);
 }
 
-/* "11 next place not marked for its state": a parameter, no start at all, or one of another state. */
+/* G11: another target, which may be a parameter, no start at all, or one of another state. */
 static void damage_next(struct draw *draw, struct given *given)
 {
     uint32_t place = draw_start(draw, given, has_target);
@@ -278,7 +278,7 @@ static void damage_next(struct draw *draw, struct given *given)
         set_target(given, place, target);
 }
 
-/* "The word after a call left unmarked." */
+/* G11, G27: no mark where a call comes back to. */
 static void damage_after_call(struct draw *draw, struct given *given)
 {
     uint32_t place = draw_start(draw, given, is_call);
@@ -287,7 +287,7 @@ static void damage_after_call(struct draw *draw, struct given *given)
         given->map[place + 1] &= (uint8_t)~STATE_MAIN;
 }
 
-/* "12 next place is the end, in a subroutine": by a call or a jump. */
+/* G12: the end inside, by a call or a jump. */
 static void damage_end(struct draw *draw, struct given *given)
 {
     bool by_call = draw_once_in(draw, 2);
@@ -297,7 +297,7 @@ static void damage_end(struct draw *draw, struct given *given)
         set_target(given, place, word_count(given));
 }
 
-/* The same by the last command, as the last starts become a subroutine's too. */
+/* G12: the same by the last command, as the last starts become a subroutine's too. */
 static void damage_last(struct draw *draw, struct given *given)
 {
     for (uint32_t place = draw_place(draw, given); place < word_count(given); place++)
@@ -326,6 +326,7 @@ void damage(struct draw *draw, struct given *given, unsigned way)
 
 /* ---- Refusals ---- */
 
+/* R1: levels that a narrower type would cut to good ones, too. */
 static void refuse_level(struct draw *draw, struct given *given)
 {
     static const uint32_t levels[] = {6, 7, 255, 256, 259, 0x10005, 0x80000000, UINT32_MAX};
@@ -333,13 +334,14 @@ static void refuse_level(struct draw *draw, struct given *given)
     given->level = draw_among(draw, levels, sizeof levels / sizeof levels[0]);
 }
 
+/* R4, G32: SLI on, by any number, at a level that lacks it. */
 static void refuse_sli(struct draw *draw, struct given *given)
 {
     given->level = draw_below(draw, 3);
     given->sli = draw_enabled(draw);
 }
 
-/* A part word, the last one or one more. */
+/* R9: a part word, the last one or one more. */
 static void refuse_words(struct draw *draw, struct given *given)
 {
     uint32_t count = word_count(given);
@@ -350,7 +352,7 @@ static void refuse_words(struct draw *draw, struct given *given)
     given->words_length += 1 + draw_below(draw, 3);
 }
 
-/* One byte too many or too few, or none. */
+/* R9: one byte too many or too few, or none. */
 static void refuse_map(struct draw *draw, struct given *given)
 {
     size_t length = given->map_length;
@@ -362,6 +364,7 @@ static void refuse_map(struct draw *draw, struct given *given)
         given->map_length = draw_once_in(draw, 4) ? 0 : length - 1;
 }
 
+/* R9: permit lists of other lengths. */
 static void refuse_permit(struct draw *draw, struct given *given)
 {
     static const uint32_t lengths[] = {0, 1, 256, 1024, 2047, 2049, 2052, 4096};
@@ -369,7 +372,7 @@ static void refuse_permit(struct draw *draw, struct given *given)
     given->permit_length = draw_among(draw, lengths, sizeof lengths / sizeof lengths[0]);
 }
 
-/* A level above 5 comes last, so that it may have any SLI setting. */
+/* R28: one way or several. A level above 5 comes last, so that it may have any SLI setting. */
 void refuse(struct draw *draw, struct given *given)
 {
     static void (*const ways[])(struct draw *, struct given *) = {refuse_words, refuse_map, refuse_permit,

@@ -3,6 +3,7 @@
 
 /* ---- Numbers ---- */
 
+/* G32: any number but 0. */
 uint32_t draw_enabled(struct draw *draw)
 {
     static const uint32_t numbers[] = {1, 1, 1, 2, 256, 0x80000000, UINT32_MAX};
@@ -75,7 +76,7 @@ static uint32_t present_count(uint32_t level, uint32_t method, uint32_t count)
     return present;
 }
 
-/* A run as long as the level has its methods; where it lacks the first, the count is 0. */
+/* G7, G29: a run as long as the level has its methods; where it lacks the first, the count is 0. */
 static void emit_run(struct text *text, uint32_t room)
 {
     uint32_t level = text->given->level;
@@ -128,7 +129,7 @@ static void emit_block(struct text *text, uint32_t length, bool has_ending)
         emit_ending(text);
 }
 
-/* The states of the next block: place 0 is main. Words for both states neither call nor return. */
+/* G2, G22: the states of the next block. Place 0 is main. Words for both states neither call nor return. */
 static uint8_t draw_mark(struct text *text)
 {
     static const uint32_t first[] = {STATE_MAIN, STATE_MAIN, STATE_MAIN, STATE_MAIN, STATE_BOTH};
@@ -158,8 +159,8 @@ static void emit_blocks(struct text *text, uint32_t count)
     }
 }
 
-/* A jump goes to a start that is marked as it is itself, more often on than back; in main also to the end.
- * A call where there is no subroutine becomes a command with count 0. */
+/* G27, G28: a jump goes to a start that is marked as it is itself, more often on than back; in main also to
+ * the end. A call where there is no subroutine becomes a command with count 0. */
 static void draw_target(struct draw *draw, struct given *given, uint32_t place)
 {
     uint32_t count = word_count(given);

@@ -22,6 +22,7 @@ void set_count(struct given *given, uint32_t count)
     given->map_length = count;
 }
 
+/* W17: a word's bytes, the lowest first. */
 uint32_t word_of(const struct given *given, uint32_t place)
 {
     uint32_t word = 0;
@@ -31,6 +32,7 @@ uint32_t word_of(const struct given *given, uint32_t place)
     return word;
 }
 
+/* W17: the same the other way. */
 void set_word(struct given *given, uint32_t place, uint32_t word)
 {
     for (unsigned i = 0; i < 4; i++)
@@ -39,6 +41,7 @@ void set_word(struct given *given, uint32_t place, uint32_t word)
 
 /* ---- Commands ---- */
 
+/* G21: a word by itself, in NV04-style. */
 struct reading command_of(const struct given *given, uint32_t place)
 {
     struct setting setting = {given->level, MODE_NV04, given->sli != 0};
@@ -65,7 +68,7 @@ bool is_run(const struct given *given, uint32_t place)
     return number == READING_INCREASING || number == READING_NON_INCREASING;
 }
 
-/* An old jump has bits 28-2 for it. */
+/* W6, W7, W8: an old jump has bits 28-2 for it. */
 void set_target(struct given *given, uint32_t place, uint32_t target)
 {
     struct reading command = command_of(given, place);
@@ -85,7 +88,7 @@ void fill_permit(struct given *given, uint8_t fill)
     memset(given->permit, fill, sizeof given->permit);
 }
 
-/* "bit (m mod 8) of byte 256 times subchannel plus m/8" */
+/* G23: the bit of a method, given by its number. */
 void set_permit(struct given *given, uint32_t subchannel, uint32_t method, bool is_permitted)
 {
     uint8_t *byte = &given->permit[256 * subchannel + method / 8];
@@ -94,6 +97,7 @@ void set_permit(struct given *given, uint32_t subchannel, uint32_t method, bool 
     *byte = is_permitted ? *byte | bit : *byte & (uint8_t)~bit;
 }
 
+/* G29: each method that a run goes to. */
 void permit_run(struct given *given, uint32_t place)
 {
     struct reading command = command_of(given, place);
@@ -119,6 +123,7 @@ uint32_t find_mark(const struct given *given, uint32_t from, uint8_t mark)
     return NOWHERE;
 }
 
+/* H5: the exact map. */
 struct path give_exact_map(struct given *given)
 {
     static struct pair room[2 * SIZE_LIMIT];

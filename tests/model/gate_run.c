@@ -21,6 +21,7 @@ struct run {
     bool is_let_go;
 };
 
+/* W17: the channel's words are the submission's bytes. */
 static void set_words(struct run *run)
 {
     const uint8_t *bytes = run->submission->words;
@@ -42,7 +43,7 @@ static uint32_t draw_handle(struct run *run)
     return run->word_count == 0 ? any : run->words[any % run->word_count];
 }
 
-/* The table and the semaphore words, which may be others at each step. */
+/* G33: the table and the semaphore words, which may be others at each step. */
 static void draw_memory(struct run *run)
 {
     for (unsigned i = 0; i < TABLE_ENTRIES; i++) {
@@ -57,7 +58,8 @@ static void draw_memory(struct run *run)
         run->semaphores[i] = draw_handle(run);
 }
 
-/* The limit is the last word's address or above; without words it may be anything. */
+/* G33: any mask, and put at the end. The limit is the last word's address or above; without words it may be
+ * anything. */
 static uint32_t open_channel(struct run *run)
 {
     struct setting setting = {run->submission->level, MODE_NV04, run->submission->sli != 0};
@@ -85,8 +87,8 @@ static bool is_permitted(const struct run *run, const struct channel *channel)
     return (run->submission->permit[byte] >> channel->method % 8 & 1) != 0;
 }
 
-/* What the word about to be read breaks. NV04-style has no long form, so that it is a parameter "while the
- * count isn't used up, else a command". */
+/* G35, G36: what the word about to be read breaks. NV04-style has no long form, so that it is a parameter or
+ * a command, by the count alone. */
 static const char *reading_breach(struct run *run)
 {
     const struct channel *channel = &run->channel;
@@ -103,7 +105,7 @@ static const char *reading_breach(struct run *run)
     return NULL;
 }
 
-/* What the channel breaks after it was opened or took a step. */
+/* G34, G37: what the channel breaks after it was opened or took a step. */
 static const char *state_breach(const struct channel *channel, uint32_t refusal)
 {
     if (refusal != REFUSAL_NONE)
@@ -141,6 +143,7 @@ static bool is_over(const struct channel *channel)
     return channel->puller_error != 0 || (!channel->acquire_active && channel->get == channel->put);
 }
 
+/* G33, G34, G35, G36, G37: a fresh channel, and the words lent unchanged to every step. */
 const char *run_breach(struct draw *draw, const struct submission *submission, uint32_t steps)
 {
     static struct run run;

@@ -1,6 +1,6 @@
-/* The self-test of the models of gatekeeper and path rule: the paper's sentences as cases worked out by
- * hand, a second reading of both, one condition at a time, and what must hold of any submission and of
- * accepted words on a channel. */
+/* The self-test of the models of gatekeeper and path rule: the rules as cases worked out by hand, a second
+ * reading of both, one condition at a time, and what must hold of any submission and of accepted words on a
+ * channel. */
 #include <inttypes.h>
 #include <stdio.h>
 #include <stdlib.h>
@@ -64,7 +64,7 @@ static void gives_reason(const char *sentence, uint32_t reason, uint32_t count, 
     judges(sentence, (struct judgement){reason, REFUSAL_NONE, count, place});
 }
 
-/* "The answer also gives the count of set permit bits, 0 on a refusal" */
+/* G24, G31: the submission is refused, which has neither a count nor a place. */
 static void gives_refusal(const char *sentence, uint32_t refusal)
 {
     judges(sentence, (struct judgement){REASON_NONE, refusal, 0, 0});
@@ -83,7 +83,7 @@ static void give_zeros(uint32_t count)
     fill_permit(&given, 0xff);
 }
 
-/* The paper's conditions, in its order, each by itself. */
+/* R1, R4, R8, R9, R21, R28: the gatekeeper's conditions, in their order, each by itself. */
 static uint32_t first_of_refusals(void)
 {
     static const uint32_t numbers[REFUSALS] = {1, 4, 8, 9};
@@ -101,7 +101,7 @@ static uint32_t first_of_refusals(void)
     return REFUSAL_NONE;
 }
 
-/* Zeros are accepted at any level, so that nothing but a refusal is told of them. */
+/* R28: zeros are accepted at any level, so that nothing but a refusal is told of them. */
 static void test_lengths(size_t words_length, size_t map_length, size_t permit_length)
 {
     uint32_t refusal;
@@ -111,11 +111,13 @@ static void test_lengths(size_t words_length, size_t map_length, size_t permit_l
     given.permit_length = permit_length;
     refusal = first_of_refusals();
     if (refusal != REFUSAL_NONE)
-        gives_refusal("Gatekeeper: 1, 4, 8, 9", refusal);
+        gives_refusal("the gatekeeper's order", refusal);
     else
         gives_reason("zeros are accepted", REASON_NONE, ALL_PERMITTED, 0);
 }
 
+/* R1, R4, R9, R28, G32: every length at issue, at levels and with SLI settings that a narrower type would cut
+ * to others. */
 static void test_refusals(void)
 {
     static const uint32_t levels[] = {0, 2, 3, 5, 6, 256, 259, UINT32_MAX};
@@ -133,7 +135,7 @@ static void test_refusals(void)
             }
 }
 
-/* "over 1,048,576 words": of the sizes around it, only those of whole words are not refused for LENGTH. */
+/* R8, R9, R28: of the sizes around the largest, only those of whole words are not refused for LENGTH. */
 static void test_sizes(void)
 {
     static const uint32_t settings[][2] = {{5, 1}, {6, 1}, {2, 1}};
@@ -165,90 +167,92 @@ struct row {
     uint32_t place;
 };
 
+/* G1, G2, G3, G4, G5, G6, G7, G9, G10, G11, G12, G21, G22, G25, G26, G27, G28, G29, G30: each reason at its
+ * place, where two could be given, and next to what is accepted. */
 static const struct row rows[] = {
-    {"No words: accepted", 0, 0, 0, {0}, {0}, 0, 0},
+    {"no words", 0, 0, 0, {0}, {0}, 0, 0},
 
-    {"1 map byte over 3", 0, 0, 2, {0, 0}, {1, 4}, 1, 1},
-    {"lowest place", 0, 0, 4, {0, 0, 0, 0}, {1, 3, 255, 4}, 1, 2},
-    {"first of all", 0, 0, 3, {3, 3, 3}, {0, 1, 5}, 1, 2},
-    {"2 place 0 lacks main", 0, 0, 1, {0}, {0}, 2, 0},
-    {"2 place 0 lacks main", 0, 0, 2, {0, 0}, {2, 1}, 2, 0},
+    {"1: a byte that is no mark", 0, 0, 2, {0, 0}, {1, 4}, 1, 1},
+    {"1: the lower of two", 0, 0, 4, {0, 0, 0, 0}, {1, 3, 255, 4}, 1, 2},
+    {"1 comes before 2 and 3", 0, 0, 3, {3, 3, 3}, {0, 1, 5}, 1, 2},
+    {"2: place 0 is no start", 0, 0, 1, {0}, {0}, 2, 0},
+    {"2: place 0 is inside alone", 0, 0, 2, {0, 0}, {2, 1}, 2, 0},
     {"2 comes before 3", 0, 0, 2, {0, 3}, {0, 1}, 2, 0},
 
-    {"3 reserved word", 0, 0, 1, {0x00000003}, {1}, 3, 0},
-    {"non-increasing, level 1 up", 0, 0, 1, {0x40000100}, {1}, 3, 0},
-    {"non-increasing, level 1 up", 1, 0, 1, {0x40000100}, {1}, 0, 0},
-    {"jump; 10: call; level 2 up", 1, 0, 1, {0x00000001}, {1}, 3, 0},
-    {"0x00010001 is a jump to 0x00010000 at level 2", 2, 0, 1, {0x00010001}, {1}, 10, 0},
-    {"return, level 2 up", 1, 0, 1, {0x00020000}, {3}, 3, 0},
-    {"SLI conditional, level 3 up and enabled", 3, 0, 1, {0x00010050}, {1}, 3, 0},
-    {"SLI conditional, level 3 up and enabled", 3, 9, 1, {0x00010050}, {1}, 0, 0},
-    {"long non-increasing, IB only", 5, 1, 1, {0x00030100}, {1}, 3, 0},
+    {"3: a word of no form", 0, 0, 1, {0x00000003}, {1}, 3, 0},
+    {"3: non-increasing at level 0", 0, 0, 1, {0x40000100}, {1}, 3, 0},
+    {"non-increasing at level 1", 1, 0, 1, {0x40000100}, {1}, 0, 0},
+    {"3: a jump at level 1", 1, 0, 1, {0x00000001}, {1}, 3, 0},
+    {"10: a jump, whatever its upper half", 2, 0, 1, {0x00010001}, {1}, 10, 0},
+    {"3: a return at level 1", 1, 0, 1, {0x00020000}, {3}, 3, 0},
+    {"3: a conditional with SLI off", 3, 0, 1, {0x00010050}, {1}, 3, 0},
+    {"a conditional with SLI on", 3, 9, 1, {0x00010050}, {1}, 0, 0},
+    {"3: a long form", 5, 1, 1, {0x00030100}, {1}, 3, 0},
     {"a word that is no start", 5, 0, 3, {0x20000008, 3, 0}, {1, 0, 1}, 0, 0},
     {"a start that isn't reached", 5, 0, 2, {0x20000000, 3}, {1, 1}, 3, 1},
     {"a start that isn't reached", 5, 0, 2, {0x20000000, 3}, {1, 2}, 3, 1},
 
-    {"4 call in subroutine", 2, 0, 1, {0x00000002}, {3}, 4, 0},
+    {"4: a call inside", 2, 0, 1, {0x00000002}, {3}, 4, 0},
     {"a call in main", 2, 0, 2, {0x00000006, 0x20000004}, {1, 3}, 0, 0},
     {"4 comes before 10", 2, 0, 2, {0x20000000, 0x0000000e}, {1, 2}, 4, 1},
     {"4 comes before 12", 2, 0, 2, {0x20000000, 0x0000000a}, {1, 2}, 4, 1},
-    {"main before subroutine", 2, 0, 2, {0x20000004, 0x0000000e}, {1, 3}, 10, 1},
-    {"5 return in main", 2, 0, 1, {0x00020000}, {1}, 5, 0},
-    {"5 return in main", 2, 0, 2, {0x00000006, 0x00020000}, {1, 3}, 5, 1},
-    {"a return has no next pair", 2, 0, 3, {0x0000000a, 0x2000000c, 0x00020000}, {1, 1, 2}, 0, 0},
+    {"10 in main comes before 4 inside", 2, 0, 2, {0x20000004, 0x0000000e}, {1, 3}, 10, 1},
+    {"5: a return in main", 2, 0, 1, {0x00020000}, {1}, 5, 0},
+    {"5: a return in main", 2, 0, 2, {0x00000006, 0x00020000}, {1, 3}, 5, 1},
+    {"nothing follows a return", 2, 0, 3, {0x0000000a, 0x2000000c, 0x00020000}, {1, 1, 2}, 0, 0},
 
-    {"6 parameters past the end", 0, 0, 1, {0x00040100}, {1}, 6, 0},
-    {"6 parameters past the end", 0, 0, 3, {0x000c0100, 0, 0}, {1, 0, 0}, 6, 0},
-    {"6 parameters past the end", 0, 0, 2, {0, 0x00040100}, {1, 1}, 6, 1},
+    {"6: a parameter is missing", 0, 0, 1, {0x00040100}, {1}, 6, 0},
+    {"6: a parameter is missing", 0, 0, 3, {0x000c0100, 0, 0}, {1, 0, 0}, 6, 0},
+    {"6: a parameter is missing", 0, 0, 2, {0, 0x00040100}, {1, 1}, 6, 1},
     {"parameters up to the end", 0, 0, 3, {0x00080100, 3, 3}, {1, 0, 0}, 0, 0},
     {"6 comes before 7", 0, 0, 1, {0x00040050}, {1}, 6, 0},
     {"6 comes before 9", 0, 0, 2, {0x00080100, 0}, {1, 1}, 6, 0},
-    {"7 NON_CACHE method", 0, 0, 2, {0x00040050, 0}, {1, 0}, 7, 0},
-    {"7 NON_CACHE method", 1, 0, 2, {0x00040050, 0}, {1, 0}, 0, 0},
-    {"7 NON_CACHE method, the second", 1, 0, 3, {0x00080050, 0, 0}, {1, 0, 0}, 7, 0},
+    {"7: a method of level 1 at level 0", 0, 0, 2, {0x00040050, 0}, {1, 0}, 7, 0},
+    {"a method of level 1 at level 1", 1, 0, 2, {0x00040050, 0}, {1, 0}, 0, 0},
+    {"7: the second method of a run", 1, 0, 3, {0x00080050, 0, 0}, {1, 0, 0}, 7, 0},
     {"a non-increasing method stays", 1, 0, 3, {0x40080050, 0, 0}, {1, 0, 0}, 0, 0},
     {"7 comes before 9", 0, 0, 2, {0x00040050, 0}, {1, 1}, 7, 0},
     {"count 0 has no method", 0, 0, 2, {0x00000050, 0}, {1, 1}, 0, 0},
     {"count 0 has no method", 5, 0, 2, {0x4000e054, 0}, {1, 1}, 0, 0},
 
-    {"9 a marked place among its parameters", 0, 0, 2, {0x00040100, 0}, {1, 1}, 9, 0},
-    {"9 a marked place among its parameters", 0, 0, 2, {0x00040100, 0}, {1, 2}, 9, 0},
-    {"9 a marked place among its parameters", 0, 0, 4, {0x000c0100, 0, 0, 0}, {1, 0, 0, 3}, 9, 0},
-    {"9 a marked place among its parameters", 1, 0, 3, {0x40080100, 0, 0}, {1, 0, 1}, 9, 0},
+    {"9: a marked parameter", 0, 0, 2, {0x00040100, 0}, {1, 1}, 9, 0},
+    {"9: a marked parameter", 0, 0, 2, {0x00040100, 0}, {1, 2}, 9, 0},
+    {"9: a marked parameter", 0, 0, 4, {0x000c0100, 0, 0, 0}, {1, 0, 0, 3}, 9, 0},
+    {"9: a marked parameter", 1, 0, 3, {0x40080100, 0, 0}, {1, 0, 1}, 9, 0},
     {"the word after its parameters is none", 0, 0, 3, {0x00040100, 0, 0}, {1, 0, 1}, 0, 0},
     {"9 comes before 11", 0, 0, 4, {0x00080100, 0, 0, 0}, {1, 1, 0, 0}, 9, 0},
     {"9 comes before 12", 0, 0, 3, {0x20000000, 0x00040100, 0}, {1, 2, 2}, 9, 1},
 
-    {"10 target past the end", 0, 0, 1, {0x20000008}, {1}, 10, 0},
-    {"10 target past the end", 0, 0, 1, {0x3ffffffc}, {1}, 10, 0},
-    {"10 target past the end", 2, 0, 1, {0x00000009}, {1}, 10, 0},
-    {"10 target past the end", 2, 0, 1, {0xfffffffd}, {1}, 10, 0},
-    {"10 target past the end, of a call", 2, 0, 1, {0x0000000a}, {1}, 10, 0},
-    {"10 target past the end, of a call", 2, 0, 2, {0xfffffffe, 0}, {1, 0}, 10, 0},
-    {"The end needs no mark", 0, 0, 1, {0x20000004}, {1}, 0, 0},
-    {"The end needs no mark", 2, 0, 2, {0x00000009, 3}, {1, 0}, 0, 0},
-    {"12 next place is the end, in a subroutine", 0, 0, 1, {0}, {3}, 12, 0},
-    {"12 next place is the end, in a subroutine", 0, 0, 2, {0x20000000, 0x20000008}, {1, 2}, 12, 1},
-    {"12 next place is the end, in a subroutine", 3, 1, 2, {0x20000000, 0x00010000}, {1, 2}, 12, 1},
-    {"12 next place is the end, in a subroutine", 0, 0, 3, {0, 0x00040100, 0}, {1, 3, 0}, 12, 1},
-    {"12: a call whose target is the end", 2, 0, 1, {0x00000006}, {1}, 12, 0},
+    {"10: a jump too far", 0, 0, 1, {0x20000008}, {1}, 10, 0},
+    {"10: a jump too far", 0, 0, 1, {0x3ffffffc}, {1}, 10, 0},
+    {"10: a jump too far", 2, 0, 1, {0x00000009}, {1}, 10, 0},
+    {"10: a jump too far", 2, 0, 1, {0xfffffffd}, {1}, 10, 0},
+    {"10: a call too far", 2, 0, 1, {0x0000000a}, {1}, 10, 0},
+    {"10: a call too far", 2, 0, 2, {0xfffffffe, 0}, {1, 0}, 10, 0},
+    {"a jump to the end", 0, 0, 1, {0x20000004}, {1}, 0, 0},
+    {"a jump to the end", 2, 0, 2, {0x00000009, 3}, {1, 0}, 0, 0},
+    {"12: into the end, inside", 0, 0, 1, {0}, {3}, 12, 0},
+    {"12: into the end, inside", 0, 0, 2, {0x20000000, 0x20000008}, {1, 2}, 12, 1},
+    {"12: into the end, inside", 3, 1, 2, {0x20000000, 0x00010000}, {1, 2}, 12, 1},
+    {"12: into the end, inside", 0, 0, 3, {0, 0x00040100, 0}, {1, 3, 0}, 12, 1},
+    {"12: a call of the end", 2, 0, 1, {0x00000006}, {1}, 12, 0},
     {"12 comes before 11", 2, 0, 2, {0x0000000a, 0}, {1, 0}, 12, 0},
 
-    {"11 next place not marked for its state", 0, 0, 2, {0, 0}, {1, 0}, 11, 0},
-    {"11 next place not marked for its state", 0, 0, 2, {0, 0}, {1, 2}, 11, 0},
-    {"11 next place not marked for its state", 3, 1, 2, {0x00010050, 0}, {1, 2}, 11, 0},
-    {"11 next place not marked for its state", 0, 0, 2, {0x20000000, 0x20000000}, {1, 2}, 11, 1},
+    {"11: on to a place without its mark", 0, 0, 2, {0, 0}, {1, 0}, 11, 0},
+    {"11: on to a place without its mark", 0, 0, 2, {0, 0}, {1, 2}, 11, 0},
+    {"11: on to a place without its mark", 3, 1, 2, {0x00010050, 0}, {1, 2}, 11, 0},
+    {"11: on to a place without its mark", 0, 0, 2, {0x20000000, 0x20000000}, {1, 2}, 11, 1},
     {"11: the word after its parameters", 0, 0, 3, {0x00040100, 0, 0}, {1, 0, 2}, 11, 0},
-    {"11: a jump's is its target", 0, 0, 3, {0x20000008, 0, 0}, {1, 1, 0}, 11, 0},
-    {"11: a jump's is its target alone", 0, 0, 3, {0x20000008, 0, 0}, {1, 0, 1}, 0, 0},
-    {"11: its target (in a subroutine)", 2, 0, 3, {0x0000000a, 0x2000000c, 0x00020000}, {1, 1, 0}, 11, 0},
-    {"11: its target (in a subroutine)", 2, 0, 2, {0x00000006, 0}, {1, 1}, 11, 0},
-    {"The word after a call left unmarked", 2, 0, 3, {0x0000000a, 0x2000000c, 0x00020000}, {1, 0, 2}, 11, 0},
-    {"The word after a call left unmarked", 2, 0, 3, {0x0000000a, 0x2000000c, 0x00020000}, {1, 2, 2}, 11, 0},
+    {"11: a jump's target", 0, 0, 3, {0x20000008, 0, 0}, {1, 1, 0}, 11, 0},
+    {"a jump's target alone", 0, 0, 3, {0x20000008, 0, 0}, {1, 0, 1}, 0, 0},
+    {"11: a call's target", 2, 0, 3, {0x0000000a, 0x2000000c, 0x00020000}, {1, 1, 0}, 11, 0},
+    {"11: a call's target", 2, 0, 2, {0x00000006, 0}, {1, 1}, 11, 0},
+    {"11: the word after a call", 2, 0, 3, {0x0000000a, 0x2000000c, 0x00020000}, {1, 0, 2}, 11, 0},
+    {"11: the word after a call", 2, 0, 3, {0x0000000a, 0x2000000c, 0x00020000}, {1, 2, 2}, 11, 0},
     {"a call as the last word", 2, 0, 3, {0x20000008, 0x00020000, 0x00000006}, {1, 2, 1}, 0, 0},
 
-    {"places rising", 0, 0, 3, {0, 3, 0x00040100}, {1, 1, 1}, 3, 1},
-    {"places rising", 0, 0, 3, {0, 0x00040100, 3}, {1, 1, 1}, 9, 1},
+    {"the lower place comes first", 0, 0, 3, {0, 3, 0x00040100}, {1, 1, 1}, 3, 1},
+    {"the lower place comes first", 0, 0, 3, {0, 0x00040100, 3}, {1, 1, 1}, 9, 1},
     {"a place for both states", 2, 0, 3, {0x0000000a, 0, 0x20000008}, {1, 1, 3}, 0, 0},
 };
 
@@ -273,7 +277,8 @@ static void test_rows(void)
 
 /* ---- The path rule ---- */
 
-/* A few words with the pairs that are reached, and the lowest bad place; NOWHERE where none is bad. */
+/* H1, H2, H3, H4, H5: a few words with the pairs that are reached, and the lowest bad place; NOWHERE where
+ * none is bad. */
 static const struct path_row {
     const char *sentence;
     uint32_t level;
@@ -282,25 +287,25 @@ static const struct path_row {
     uint8_t map[ROW_WORDS];
     uint32_t place;
 } path_rows[] = {
-    {"(place 0, main) is reached if there is a word", 0, 0, {0}, {0}, NOWHERE},
-    {"(place 0, main) is reached if there is a word", 0, 1, {0}, {1}, NOWHERE},
-    {"its next pairs are reached", 0, 3, {0x00040100, 3, 0}, {1, 0, 1}, NOWHERE},
-    {"a jump's is its target", 0, 3, {0x20000008, 3, 0}, {1, 0, 1}, NOWHERE},
-    {"unless that is the end", 0, 2, {0x20000008, 3}, {1, 0}, NOWHERE},
-    {"A return has no next pair", 2, 3, {0x0000000a, 0x2000000c, 0x00020000}, {1, 1, 2}, NOWHERE},
+    {"no words", 0, 0, {0}, {0}, NOWHERE},
+    {"one word", 0, 1, {0}, {1}, NOWHERE},
+    {"the word after its parameters", 0, 3, {0x00040100, 3, 0}, {1, 0, 1}, NOWHERE},
+    {"a jump's target", 0, 3, {0x20000008, 3, 0}, {1, 0, 1}, NOWHERE},
+    {"a jump to the end", 0, 2, {0x20000008, 3}, {1, 0}, NOWHERE},
+    {"nothing follows a return", 2, 3, {0x0000000a, 0x2000000c, 0x00020000}, {1, 1, 2}, NOWHERE},
     {"a pair each for both states", 2, 3, {0x0000000a, 0, 0x20000008}, {1, 1, 3}, NOWHERE},
-    {"without reason 3", 0, 2, {3, 0}, {1, 0}, 0},
-    {"without reason 4", 2, 4, {0x0000000a, 0x20000010, 0x0000000e, 0}, {1, 1, 2, 0}, 2},
-    {"without reason 5", 2, 2, {0x00020000, 0}, {1, 0}, 0},
-    {"without reason 6", 0, 2, {0x00080100, 0}, {1, 0}, 0},
-    {"without reason 7", 0, 3, {0x00040050, 0, 0}, {1, 0, 0}, 0},
-    {"without reason 10", 0, 2, {0x2000000c, 0}, {1, 0}, 0},
+    {"nothing follows reason 3", 0, 2, {3, 0}, {1, 0}, 0},
+    {"nothing follows reason 4", 2, 4, {0x0000000a, 0x20000010, 0x0000000e, 0}, {1, 1, 2, 0}, 2},
+    {"nothing follows reason 5", 2, 2, {0x00020000, 0}, {1, 0}, 0},
+    {"nothing follows reason 6", 0, 2, {0x00080100, 0}, {1, 0}, 0},
+    {"nothing follows reason 7", 0, 3, {0x00040050, 0, 0}, {1, 0, 0}, 0},
+    {"nothing follows reason 10", 0, 2, {0x2000000c, 0}, {1, 0}, 0},
     {"a call with 10 reaches neither", 2, 2, {0x0000000e, 0}, {1, 0}, 0},
-    {"without reason 12", 0, 2, {0x20000004, 0}, {1, 1}, NOWHERE},
-    {"without reason 12", 2, 2, {0x00000006, 0}, {1, 3}, 1},
+    {"a jump is no reason 12 here", 0, 2, {0x20000004, 0}, {1, 1}, NOWHERE},
+    {"nothing follows reason 12", 2, 2, {0x00000006, 0}, {1, 3}, 1},
     {"a call with 12 reaches neither", 2, 2, {0x0000000a, 0}, {1, 0}, 0},
-    {"among its parameters", 0, 3, {0x00040100, 0x20000004, 0x20000004}, {1, 1, 1}, 0},
-    {"among its parameters", 2, 3, {0x00040100, 0x00020000, 0x00000006}, {1, 2, 1}, 0},
+    {"a parameter that is reached", 0, 3, {0x00040100, 0x20000004, 0x20000004}, {1, 1, 1}, 0},
+    {"a parameter that is reached", 2, 3, {0x00040100, 0x00020000, 0x00000006}, {1, 2, 1}, 0},
     {"the lowest bad place", 2, 3, {0x0000000a, 3, 3}, {1, 1, 2}, 1},
 };
 
@@ -325,7 +330,7 @@ static void test_path_rows(void)
     }
 }
 
-/* "without reasons 3 to 8": 8 needs a permit list of its own. */
+/* H2, H3: reason 8 needs a permit list of its own. */
 static void test_path_permit(void)
 {
     static const uint32_t words[] = {0x0004e100, 0, 0};
@@ -340,7 +345,8 @@ static void test_path_permit(void)
         for (uint32_t j = 0; j < 3; j++)
             set_word(&given, j, words[j]);
         path = give_exact_map(&given);
-        check(path.is_bad == (i == 0) && given.map[2] == i, "without reason 8", 0, (struct judgement){0});
+        check(path.is_bad == (i == 0) && given.map[2] == i, "nothing follows reason 8", 0,
+              (struct judgement){0});
     }
 }
 
@@ -359,8 +365,7 @@ static void give_run(uint32_t level, uint32_t form, uint32_t count, uint32_t sub
     fill_permit(&given, 0);
 }
 
-/* "bit (m mod 8) of byte 256 times subchannel plus m/8, m the method divided by 4": that bit alone, then all
- * but that one. */
+/* G8, G23, G24: the bit of a method alone, then all but that one. */
 static void test_permit_bits(void)
 {
     static const uint32_t methods[] = {0, 64, 65, 71, 72, 127, 1000, 2040, 2046, 2047};
@@ -371,7 +376,7 @@ static void test_permit_bits(void)
             uint8_t bit = (uint8_t)(1 << methods[i] % 8);
 
             give_run(0, 0, 1, subchannel, methods[i]);
-            gives_reason("8 method not permitted", REASON_PERMIT, 0, 0);
+            gives_reason("no bit is set", REASON_PERMIT, 0, 0);
             given.permit[byte] = bit;
             gives_reason("its bit is set", REASON_NONE, 1, 0);
             fill_permit(&given, 0xff);
@@ -380,25 +385,25 @@ static void test_permit_bits(void)
         }
 }
 
-/* "An increasing run from 0x1ffc taken as ending there" */
+/* G7, G8, G29: runs from 0x1ffc on. */
 static void test_wrap(void)
 {
     for (uint32_t subchannel = 0; subchannel < 8; subchannel++) {
         give_run(0, 0, 2, subchannel, 2047);
         given.permit[256 * subchannel + 255] = 0x80;
-        gives_reason("its second parameter goes to method 0", REASON_PERMIT, 1, 0);
+        gives_reason("method 0 comes after the last, not permitted", REASON_PERMIT, 1, 0);
         given.permit[256 * subchannel] = 0x01;
-        gives_reason("its second parameter goes to method 0", REASON_NONE, 2, 0);
+        gives_reason("method 0 comes after the last, permitted", REASON_NONE, 2, 0);
         give_run(5, 0, 3, subchannel, 2047);
         fill_permit(&given, 0xff);
-        gives_reason("its third parameter goes to method 4", REASON_NON_CACHE, ALL_PERMITTED, 0);
+        gives_reason("method 4 comes after method 0", REASON_NON_CACHE, ALL_PERMITTED, 0);
         give_run(1, 0x40000000, 3, subchannel, 2047);
         given.permit[256 * subchannel + 255] = 0x80;
         gives_reason("a non-increasing method stays", REASON_NONE, 1, 0);
     }
 }
 
-/* "7 NON_CACHE method; 8 method not permitted": 7 is tried over all parameters, then 8. */
+/* G8, G26: 7 of the second parameter comes before 8 of the first, and 8 before 9. */
 static void test_method_order(void)
 {
     give_run(0, 0, 2, 3, 0);
@@ -412,7 +417,7 @@ static void test_method_order(void)
     gives_reason("8 comes before 9", REASON_MARKED, 2, 0);
 }
 
-/* "Present: 0x00 always; 0x10 to 0x24 at level 5; 0x50 from 1; 0x60 to 0x6c from 2; 0x80 from 3." */
+/* W18, G7: every method up to 0x100, with the first level that has it, 6 where none does. */
 static void test_specials(void)
 {
     static const struct {
@@ -432,12 +437,12 @@ static void test_specials(void)
 
                 give_run(level, 0, 1, 2, method / 4);
                 fill_permit(&given, 0xff);
-                gives_reason("7 NON_CACHE method", is_present ? REASON_NONE : REASON_NON_CACHE,
+                gives_reason("methods by the level", is_present ? REASON_NONE : REASON_NON_CACHE,
                              ALL_PERMITTED, 0);
             }
 }
 
-/* The most parameters that a command has: of one method, and of all from 0x100 on. */
+/* G6, G8, G9, G29: the most parameters that a command has, of one method, and of all from 0x100 on. */
 static void test_long_runs(void)
 {
     give_run(1, 0x40000000, 2047, 7, 2047);
@@ -459,7 +464,7 @@ static void test_long_runs(void)
 
 /* ---- A second reading, one condition at a time ---- */
 
-/* The number of the method that parameter i of a run goes to. */
+/* G29: the number of the method that parameter i of a run goes to. */
 static uint32_t method_at(struct reading command, uint32_t i)
 {
     uint32_t method = command.value[2] / 4;
@@ -472,6 +477,7 @@ static bool is_lacking(const struct submission *submission, struct reading comma
     return !model_present(submission->level, method_at(command, i));
 }
 
+/* G23: whether the bit of that method is clear. */
 static bool is_forbidden(const struct submission *submission, struct reading command, uint32_t i)
 {
     uint32_t method = method_at(command, i);
@@ -494,7 +500,7 @@ static unsigned next_count_of(uint32_t place)
     return number == READING_CALL ? 2 : 1;
 }
 
-/* Its next pair i; a call's target is its first. */
+/* G27: its next pair i; a call's target is its first. */
 static struct pair next_of(struct pair pair, unsigned i)
 {
     uint32_t target = command_of(&given, pair.place).value[0] / 4;
@@ -506,7 +512,7 @@ static struct pair next_of(struct pair pair, unsigned i)
     return (struct pair){pair.place + 1 + parameters_of(pair.place), pair.state};
 }
 
-/* Whether a next pair gives one of the reasons 10, 11 and 12. */
+/* G10, G11, G12, G28: whether a next pair gives one of the reasons 10, 11 and 12. */
 static bool next_has(const struct submission *submission, struct pair next, uint32_t reason)
 {
     size_t count = submission->map_length;
@@ -521,7 +527,7 @@ static bool next_has(const struct submission *submission, struct pair next, uint
     }
 }
 
-/* Whether parameter i of a place's command gives it one of the reasons 6 to 9. */
+/* G6, G7, G8, G9: whether parameter i of a place's command gives it one of the reasons 6 to 9. */
 static bool parameter_has(const struct submission *submission, uint32_t place, uint32_t i, uint32_t reason)
 {
     struct reading command = command_of(&given, place);
@@ -539,7 +545,7 @@ static bool parameter_has(const struct submission *submission, uint32_t place, u
     }
 }
 
-/* Whether a pair has a reason, whatever others it has. */
+/* G3, G4, G5: whether a pair has a reason, whatever others it has. */
 static bool pair_has(const struct submission *submission, struct pair pair, uint32_t reason)
 {
     bool has = false;
@@ -565,7 +571,8 @@ static bool pair_has(const struct submission *submission, struct pair pair, uint
     }
 }
 
-/* "At one pair they are tried in that order." */
+/* G26: the order at one pair. 11 may come last, as of a call's two next pairs only the first can have 10 or
+ * 12. */
 static const uint32_t reason_order[] = {3, 4, 5, 6, 7, 8, 9, 10, 12, 11};
 
 static uint32_t first_of_reasons(const struct submission *submission, struct pair pair)
@@ -576,6 +583,7 @@ static uint32_t first_of_reasons(const struct submission *submission, struct pai
     return REASON_NONE;
 }
 
+/* G24: the bits of the list, one at a time. */
 static uint32_t count_permitted(const struct submission *submission)
 {
     uint32_t count = 0;
@@ -585,7 +593,7 @@ static uint32_t count_permitted(const struct submission *submission)
     return count;
 }
 
-/* The judgement of a submission that isn't refused. */
+/* G1, G2, G25, G30: the judgement of a submission that isn't refused. */
 static struct judgement judge_by_conditions(const struct submission *submission)
 {
     uint32_t permitted = count_permitted(submission);
@@ -607,7 +615,7 @@ static struct judgement judge_by_conditions(const struct submission *submission)
     return (struct judgement){0, 0, permitted, 0};
 }
 
-/* "reasons 3 to 8, 10 and 12" */
+/* H2: the reasons that don't look at a map. */
 static bool stops_path(const struct submission *submission, struct pair pair)
 {
     static const uint32_t reasons[] = {3, 4, 5, 6, 7, 8, 10, 12};
@@ -618,7 +626,7 @@ static bool stops_path(const struct submission *submission, struct pair pair)
     return false;
 }
 
-/* Marks what is reached from the pairs marked so far; whether there was something new. */
+/* H2: marks what is reached from the pairs marked so far; whether there was something new. */
 static bool reach_further(const struct submission *submission, uint8_t *map)
 {
     uint32_t count = word_count(&given);
@@ -641,8 +649,7 @@ static bool reach_further(const struct submission *submission, uint8_t *map)
     return is_more;
 }
 
-/* "A place is bad if a reached pair has one of those reasons or a reached start lies among its
- * parameters." */
+/* H3, H4: bad by one of those reasons, or by what lies among the parameters. */
 static bool is_bad_by_conditions(const struct submission *submission, const uint8_t *map, uint32_t place)
 {
     for (uint32_t state = STATE_MAIN; state <= STATE_SUBROUTINE; state++)
@@ -656,7 +663,7 @@ static bool is_bad_by_conditions(const struct submission *submission, const uint
     return false;
 }
 
-/* The path rule by conditions, over a map that is cleared first. */
+/* H1, H2, H3, H4, H5: the path rule by conditions, over a map that is cleared first. */
 static struct path path_by_conditions(const struct submission *submission, uint8_t *map)
 {
     uint32_t count = word_count(&given);
@@ -676,7 +683,7 @@ static struct path path_by_conditions(const struct submission *submission, uint8
 
 enum { FEW_WORDS = 40 };
 
-/* The model's judgement, which the second reading gives too. */
+/* R28, G25, G26, G31: the model's judgement, which the second reading gives too. */
 static struct judgement test_judgement(void)
 {
     struct submission submission = lend();
@@ -691,7 +698,7 @@ static struct judgement test_judgement(void)
     return judgement;
 }
 
-/* What accepted words never do. */
+/* G33, G34, G35, G36, G37, G38: what accepted words never do. */
 static void test_run(struct draw *draw, struct judgement judgement)
 {
     struct submission submission = lend();
@@ -703,7 +710,8 @@ static void test_run(struct draw *draw, struct judgement judgement)
     check(breach == NULL, breach == NULL ? "accepted words" : breach, given.level, judgement);
 }
 
-/* The exact map is accepted exactly if no place is bad; else the reason is at the lowest bad place. */
+/* H5, H6: with the exact map words are accepted unless a place is bad; else the reason is at the lowest of
+ * them. */
 static void test_exact_map(struct draw *draw)
 {
     uint8_t map[FEW_WORDS];
@@ -721,11 +729,19 @@ static void test_exact_map(struct draw *draw)
     test_run(draw, judgement);
 }
 
+/* H7: words that are accepted with whatever map have no bad place. */
 static void test_submission(struct draw *draw)
 {
-    test_run(draw, test_judgement());
-    if (first_of_refusals() == REFUSAL_NONE)
-        test_exact_map(draw);
+    uint8_t map[FEW_WORDS];
+    struct submission submission = lend();
+    struct judgement judgement = test_judgement();
+
+    test_run(draw, judgement);
+    if (judgement.refusal != REFUSAL_NONE)
+        return;
+    check(judgement.reason != REASON_NONE || !path_by_conditions(&submission, map).is_bad,
+          "accepted words have no bad place", given.level, judgement);
+    test_exact_map(draw);
 }
 
 static uint32_t draw_size(struct draw *draw)

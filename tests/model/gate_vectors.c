@@ -25,14 +25,15 @@ enum { ANSWER_REFUSED = 20 };
 _Static_assert((int)REASON_COUNT <= (int)ANSWER_REFUSED, "no refusal is counted under a reason");
 _Static_assert(ANSWER_REFUSED + (int)REFUSAL_COUNT <= (int)ANSWERS, "every refusal has its answer");
 
-/* "An increasing run from 0x1ffc taken as ending there", "The word after a call left unmarked." */
+/* G27, G29: what a wrong reading would pass, a run from 0x1ffc on that came to no other method, and a call
+ * whose next word needed no mark. */
 enum { MISREADING_NONE = 0, MISREADING_WRAP = 1, MISREADING_CALL = 2 };
 
 static struct given given;
 
 /* ---- Counts ---- */
 
-/* Whether every method of a run is permitted but method 0, which it comes to past 0x1ffc. */
+/* G8, G29: whether every method of a run is permitted but method 0, which it comes to past 0x1ffc. */
 static bool is_decided_by_wrap(uint32_t place)
 {
     struct submission submission = submission_of(&given);
@@ -50,7 +51,7 @@ static bool is_decided_by_wrap(uint32_t place)
     return judgement.reason != REASON_PERMIT || judgement.place != place;
 }
 
-/* Whether the word after a call lacks its mark, but its target doesn't. */
+/* G11, G27: whether the word after a call lacks its mark, but its target doesn't. */
 static bool is_decided_by_call(uint32_t place)
 {
     uint32_t target = command_of(&given, place).value[0] / 4;
@@ -68,7 +69,7 @@ static uint32_t misreading(struct judgement judgement)
     return MISREADING_NONE;
 }
 
-/* The record of the submission, its answer still to be added. */
+/* G24, G31: the record of the submission, its answer still to be added. */
 static void put_judged(struct vectors *vectors, uint32_t kind, uint32_t *record, size_t count)
 {
     struct submission submission = submission_of(&given);
@@ -173,7 +174,7 @@ static void give_setting(unsigned i)
     given.sli = i < 6 ? 0 : 1;
 }
 
-/* "No words: accepted." */
+/* G24, G30: no words, whatever is permitted. */
 static void put_empty(struct vectors *vectors)
 {
     static const uint8_t fills[] = {0, 0xff, 0x5a};
@@ -187,7 +188,8 @@ static void put_empty(struct vectors *vectors)
         }
 }
 
-/* One word, with any map byte: each form, with targets before, at and past the end. */
+/* G1, G2, G3, G4, G5, G6, G10, G12, G22, G28, G29: one word, with any map byte: each form, with targets
+ * before, at and past the end. */
 static void put_one_word(struct vectors *vectors)
 {
     static const uint32_t words[] = {0x00000000, 0x0000fffc, 0x40000100, 0x00040100, 0x20000000, 0x20000004,
@@ -220,7 +222,7 @@ static void give_run(struct draw *draw, uint32_t form, uint32_t count, uint32_t 
     permit_run(&given, 0);
 }
 
-/* Increasing runs past 0x1ffc to method 0, which is permitted or not. */
+/* G8, G29: increasing runs past 0x1ffc to method 0, which is permitted or not. */
 static void put_wraps(struct vectors *vectors)
 {
     for (unsigned i = 0; i < 2 * 8 * SETTINGS; i++) {
@@ -234,8 +236,8 @@ static void put_wraps(struct vectors *vectors)
     }
 }
 
-/* A run of any method, of fewer parameters than a limit: one of its methods is not permitted, or the one
- * after it, or all are. */
+/* G7, G8, G23, G24, G29: a run of any method, of fewer parameters than a limit: one of its methods is not
+ * permitted, or the one after it, or all are. */
 static void put_run(struct vectors *vectors, uint32_t limit)
 {
     struct draw *draw = &vectors->draw;
@@ -281,6 +283,8 @@ static void draw_accepted(struct draw *draw)
         give_exact_map(&given);
 }
 
+/* G25, G26, G27, G31, H5, H6: sound words, with every mark or the exact map, damaged ones, wild ones, and
+ * what is refused. */
 static void put_drawn(struct vectors *vectors)
 {
     struct draw *draw = &vectors->draw;
@@ -344,6 +348,7 @@ static void put_large(struct vectors *vectors, const struct large *large)
     put_judged(vectors, LARGE, record, count);
 }
 
+/* R8, R9, R28: sizes around the largest, and reasons that only many words can give. */
 static void put_larges(struct vectors *vectors)
 {
     enum { ALL = SIZE_LIMIT };

@@ -1,7 +1,7 @@
 #include "listing.h"
 
-/* The words of a command: the first, a long form's count word, and the parameters, which are as many as its
- * count. Jumps are commands like others, they are not followed. */
+/* W15: how many words a command has, its parameters among them. Jumps are commands like others, they are not
+ * followed. */
 static uint64_t words_of(struct reading command)
 {
     switch (command.number) {
@@ -20,7 +20,7 @@ static struct listed without_command(uint32_t answer, uint32_t refusal)
     return (struct listed){answer, {0, {refusal, 0, 0}}};
 }
 
-/* "Reading a word, listing: 1, 2, 4, 8." The two have the same refusals, and past the last word the same
+/* R23, K2, K3, K4: one answer. A word at a place has the same refusals, and past the last word the same
  * answer. */
 struct listed model_listing_next(struct setting setting, const uint32_t *words, size_t count, uint64_t *place)
 {
@@ -36,8 +36,8 @@ struct listed model_listing_next(struct setting setting, const uint32_t *words, 
     default:
         break;
     }
-    /* A long form that lacks its count word reads as one of count 0, which has two words, one more than there
-     * is. */
+    /* K3, W16: a long form that lacks its count word reads as one of count 0, which has two words, one more
+     * than there is. */
     if (words_of(reading) > count - *place)
         return without_command(LISTED_SHORT, REFUSAL_NONE);
     *place += words_of(reading);

@@ -1,11 +1,11 @@
-/* A model of the listing reader, written from the paper alone: the commands of lent words in turn. */
+/* A model of the listing reader, written from the rules of docs/CARD.md alone, never from the code: the
+ * commands of lent words in turn. */
 #ifndef MODEL_LISTING_H
 #define MODEL_LISTING_H
 
 #include "word.h"
 
-/* What the reader answers: a command; the three ends, "past the last word, at a reserved word or at a command
- * whose words run short"; or a refusal. */
+/* K2, K3: what the reader answers, a command, one of the three ends, or a refusal. */
 enum { LISTED_COMMAND = 1, LISTED_PAST = 2, LISTED_RESERVED = 3, LISTED_SHORT = 4, LISTED_REFUSED = 5 };
 
 /* The answer, with the command's reading. Without a command the reading is 0 throughout, but for a refusal's
@@ -15,7 +15,8 @@ struct listed {
     struct reading reading;
 };
 
-/* The answer at a place of the lent words. A command moves the place past its words; else it stays. */
+/* K1, K2, K4: the answer at a place of the lent words, which the caller holds and which starts at 0. A
+ * command moves the place past its words; else it stays. */
 struct listed model_listing_next(struct setting setting, const uint32_t *words, size_t count,
                                  uint64_t *place);
 

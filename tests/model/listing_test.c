@@ -71,8 +71,8 @@ static void gives(const char *sentence, struct setting setting, uint64_t *place,
 
 enum { ROW_WORDS = 6, ROW_ANSWERS = 6 };
 
-/* A list, the place to start from, and what is answered, the last time with an end: the answer, the reading's
- * number and values, and the place after it. */
+/* R1, R2, R4, R23, W14, W15, W16, K2, K3: a list, the place to start from, and what is answered, the last
+ * time with an end: the answer, the reading's number and values, and the place after it. */
 static const struct row {
     const char *sentence;
     struct setting setting;
@@ -102,12 +102,12 @@ static const struct row {
       {1, 7, 0xfffffffc, 0, 0, 3},
       {1, 6, 0, 0, 0, 4},
       {2, 0, 0, 0, 0, 4}}},
-    {"0x00010001 is a jump", {2, 0, false}, 1, {0x00010001}, 0,
+    {"a jump, whatever its upper half", {2, 0, false}, 1, {0x00010001}, 0,
      {{1, 7, 0x10000, 0, 0, 1}, {2, 0, 0, 0, 0, 1}}},
 
     {"long, subchannel 2, 0x0100", {4, 1, false}, 5, {0x00034100, 0xab000002, 3, 3, 0}, 0,
      {{1, 5, 2, 0x100, 2, 4}, {1, 1, 0, 0, 0, 5}, {2, 0, 0, 0, 0, 5}}},
-    {"long: the upper 8 are ignored", {5, 1, true}, 3, {0x00030000, 0xff000000, 0x00000001}, 0,
+    {"long, with bits above the count", {5, 1, true}, 3, {0x00030000, 0xff000000, 0x00000001}, 0,
      {{1, 5, 0, 0, 0, 2}, {3, 0, 0, 0, 0, 2}}},
     {"a long form without its count word", {4, 1, false}, 1, {0x00034100}, 0, {{4, 0, 0, 0, 0, 0}}},
     {"a long form without its count word, after a command", {4, 1, true}, 2, {0x00010ff0, 0x00034100}, 0,
@@ -126,11 +126,11 @@ static const struct row {
      {{1, 6, 8, 0, 0, 2}, {3, 0, 0, 0, 0, 2}}},
 
     {"a reserved word", {5, 0, true}, 2, {3, 0}, 0, {{3, 0, 0, 0, 0, 0}}},
-    {"non-increasing, level 1 up", {0, 0, false}, 2, {0x40040100, 0}, 0, {{3, 0, 0, 0, 0, 0}}},
+    {"non-increasing at level 0", {0, 0, false}, 2, {0x40040100, 0}, 0, {{3, 0, 0, 0, 0, 0}}},
     {"reserved comes before short", {0, 0, false}, 1, {0x40040100}, 0, {{3, 0, 0, 0, 0, 0}}},
-    {"jump; 10: call; level 2 up", {1, 0, false}, 1, {0x00000001}, 0, {{3, 0, 0, 0, 0, 0}}},
-    {"jumps are NV04-style only", {4, 1, false}, 1, {0x20000000}, 0, {{3, 0, 0, 0, 0, 0}}},
-    {"a long form is IB only", {5, 0, true}, 2, {0x00034100, 0}, 0, {{3, 0, 0, 0, 0, 0}}},
+    {"a jump at level 1", {1, 0, false}, 1, {0x00000001}, 0, {{3, 0, 0, 0, 0, 0}}},
+    {"an old jump in IB mode", {4, 1, false}, 1, {0x20000000}, 0, {{3, 0, 0, 0, 0, 0}}},
+    {"a long form in NV04-style", {5, 0, true}, 2, {0x00034100, 0}, 0, {{3, 0, 0, 0, 0, 0}}},
     {"SLI off", {3, 0, false}, 1, {0x00010050}, 0, {{3, 0, 0, 0, 0, 0}}},
 
     {"1 LEVEL", {6, 2, true}, 1, {0}, 0, {{5, 0, 1, 0, 0, 0}}},
@@ -147,7 +147,7 @@ static struct listed listed_of(const uint64_t answer[6])
         {(uint32_t)answer[1], {(uint32_t)answer[2], (uint32_t)answer[3], (uint32_t)answer[4]}}};
 }
 
-/* "It ends, says which and stays there": asked again, the answer is the same. */
+/* K4: asked again at an end, or where it refuses, the reader gives the same. */
 static void test_row(const struct row *row)
 {
     uint64_t place = row->start;
@@ -179,7 +179,7 @@ static struct listed refused(uint32_t refusal)
     return (struct listed){LISTED_REFUSED, {0, {refusal, 0, 0}}};
 }
 
-/* "8 SIZE: [...] over 1,048,576 words", the last in the order. */
+/* R8, R21, R23, K1: SIZE is the last in the order. Each question brings a setting of its own. */
 static void test_sizes(void)
 {
     struct setting setting = {5, MODE_NV04, true};
@@ -201,7 +201,7 @@ static void test_sizes(void)
     gives("4 SLI comes before 8", (struct setting){2, 0, true}, &place, refused(4), 0);
 }
 
-/* A long form over all words, and one whose parameters are one too many. */
+/* W15, K2, K3: a long form over all words, and one whose parameters are one too many. */
 static void test_long_run(void)
 {
     struct setting setting = {4, MODE_IB, false};
@@ -228,7 +228,7 @@ static void test_long_run(void)
 
 /* ---- What must hold of any list ---- */
 
-/* How many words a command takes, by the patterns; the count word of a long form is there. */
+/* W15: how many words a command takes, by the patterns; the count word of a long form is there. */
 static uint64_t words_by_pattern(uint32_t number, uint64_t place)
 {
     uint32_t count = gather(pattern_bits(patterns[number - 1], 'C'), list[place]);
@@ -238,8 +238,8 @@ static uint64_t words_by_pattern(uint32_t number, uint64_t place)
     return UINT64_C(1) + count;
 }
 
-/* A command is what the word reads as, and takes all its words: without the last of them it is short, and it
- * needs none of those behind them. */
+/* W15, K2, K3: a command is what the word reads as, and takes all its words: without the last of them it is
+ * short, and it needs none of those behind them. */
 static void test_command(struct setting setting, struct listed listed, uint64_t place, uint64_t after)
 {
     uint64_t again = place;
@@ -259,7 +259,7 @@ static void test_command(struct setting setting, struct listed listed, uint64_t 
           again);
 }
 
-/* An end is the one that the word says, and stays. */
+/* K3, K4: an end is the one that the word says, and stays. */
 static void test_end(struct setting setting, struct listed listed, uint64_t place)
 {
     uint64_t again = place;
@@ -268,14 +268,14 @@ static void test_end(struct setting setting, struct listed listed, uint64_t plac
     bool is_reserved = number == READING_RESERVED;
     struct listed other = model_listing_next(setting, lend(list_count), list_count, &again);
 
-    check(same(other, listed) && again == place, "stays there", setting, other, again);
-    check((listed.answer == LISTED_PAST) == is_past, "past the last word", setting, listed, place);
-    check((listed.answer == LISTED_RESERVED) == is_reserved, "at a reserved word", setting, listed, place);
+    check(same(other, listed) && again == place, "the same again", setting, other, again);
+    check((listed.answer == LISTED_PAST) == is_past, "past where no word is", setting, listed, place);
+    check((listed.answer == LISTED_RESERVED) == is_reserved, "reserved by its word", setting, listed, place);
     if (listed.answer != LISTED_SHORT)
         return;
     if (number == READING_LONG && place + 1 == list_count)
         return;
-    check(place + words_by_pattern(number, place) > list_count, "whose words run short", setting, listed,
+    check(place + words_by_pattern(number, place) > list_count, "short by the patterns", setting, listed,
           place);
 }
 

@@ -83,6 +83,7 @@ static size_t add_head(uint32_t *record)
 
 /* ---- LIST ---- */
 
+/* K2, K4: the answers to an end or a refusal, which is asked for two times more. */
 static void put_list(struct vectors *vectors)
 {
     static uint32_t record[5 + MOST_WORDS + 1 + ANSWER_WORDS * MOST_ANSWERS];
@@ -138,7 +139,7 @@ static uint32_t draw_parameters(struct draw *draw)
     return draw_below(draw, draw_once_in(draw, 12) ? 60 : 6);
 }
 
-/* A command of a form with all its words, whether or not the setting has it. */
+/* W15: a command of a form with all its words, whether or not the setting has it. */
 static void give_command(struct draw *draw, uint32_t number)
 {
     uint32_t word = draw_form(draw, patterns[number - 1]);
@@ -153,7 +154,7 @@ static void give_command(struct draw *draw, uint32_t number)
         break;
     case READING_LONG:
         give_word(word);
-        /* "the upper 8 are ignored" */
+        /* W14: bits above the count. */
         give_word((draw_number(draw) & 0xff000000) | parameters);
         give_parameters(draw, parameters);
         break;
@@ -225,7 +226,7 @@ static struct setting accepted_at(unsigned i)
     return settings[i];
 }
 
-/* One of them that is changed so that LEVEL, MODE or SLI refuses it, whatever else does. */
+/* R1, R2, R4: one of them that is changed so that LEVEL, MODE or SLI refuses it, whatever else does. */
 static struct setting draw_refused(struct draw *draw)
 {
     struct setting setting = draw_setting(draw);
@@ -260,7 +261,7 @@ static uint32_t draw_beyond(struct draw *draw)
     return draw_among(draw, places, sizeof places / sizeof places[0]);
 }
 
-/* Every setting: no words, the paper's first words, drawn ones. */
+/* R23, K3, K4: every setting, with no words, with a run and its parameters, and with drawn ones. */
 static void put_settings(struct vectors *vectors)
 {
     struct draw *draw = &vectors->draw;
@@ -287,8 +288,8 @@ static void put_settings(struct vectors *vectors)
 
 /* ---- Lists ---- */
 
-/* Each form by itself, with all its words, then without the last of them, then with one more word that is
- * reserved. */
+/* K2, K3: each form by itself, with all its words, then without the last of them, then with one more word
+ * that is reserved. */
 static void put_forms(struct vectors *vectors)
 {
     for (unsigned i = 0; i < ACCEPTED * PATTERNS; i++) {
@@ -309,8 +310,8 @@ static uint32_t draw_commands(struct draw *draw)
     return 1 + draw_below(draw, draw_once_in(draw, 10) ? 40 : 8);
 }
 
-/* Commands: all their words are there; without the last word; a reserved word behind them, and more of them;
- * a place in the middle, which may be that of a parameter, and one beyond. */
+/* K3, K5: commands with all their words; without the last word; a reserved word behind them, and more of
+ * them; a place in the middle, which may be that of a parameter, and one beyond. */
 static void put_written(struct vectors *vectors, struct setting setting)
 {
     struct draw *draw = &vectors->draw;
@@ -332,8 +333,8 @@ static void put_written(struct vectors *vectors, struct setting setting)
     put_list(vectors);
 }
 
-/* Runs of as many parameters as there are words behind them, one more and one less, and up to the largest
- * count. */
+/* W15, K2, K3: runs of as many parameters as there are words behind them, one more and one less, and up to
+ * the largest count. */
 static void put_counts(struct vectors *vectors, struct setting setting, uint32_t number)
 {
     struct draw *draw = &vectors->draw;
@@ -355,7 +356,7 @@ static void put_counts(struct vectors *vectors, struct setting setting, uint32_t
     }
 }
 
-/* A long form that lacks its count word, behind other commands. */
+/* W16, K3: a long form that lacks its count word, behind other commands. */
 static void put_without_count(struct vectors *vectors, struct setting setting)
 {
     struct draw *draw = &vectors->draw;
@@ -382,7 +383,7 @@ static void put_any(struct vectors *vectors, struct setting setting)
     put_list(vectors);
 }
 
-/* As many commands as a list can have. */
+/* K5: as many commands as a list can have. */
 static void put_most(struct vectors *vectors, struct setting setting)
 {
     give_nothing(setting, 0);
@@ -443,6 +444,7 @@ static void put_large(struct vectors *vectors, const struct large *large)
     put_record(vectors, LARGE, record, count, listed.answer);
 }
 
+/* R8, R23, W15, K2, K3: places of the most words, too many of them, and runs over all of them. */
 static void put_larges(struct vectors *vectors)
 {
     /* The word 0x0003fffc is a long form whose count word, the same, gives 0x3fffc parameters; 0x1ffce100 is

@@ -9,7 +9,7 @@ struct walk {
     size_t waiting_count;
 };
 
-/* Each pair waits once at most, as it is marked before. */
+/* H5: a pair that is reached gets its mark. Each pair waits once at most, as it is marked before. */
 static void reach(struct walk *walk, struct pair pair)
 {
     if ((walk->map[pair.place] & pair.state) != 0)
@@ -18,8 +18,7 @@ static void reach(struct walk *walk, struct pair pair)
     walk->waiting[walk->waiting_count++] = pair;
 }
 
-/* "from a reached pair without reasons 3 to 8, 10 and 12, its next pairs are reached, unless that is the
- * end" */
+/* H2: what is reached from a pair, which is nothing where it has one of the path rule's reasons. */
 static void reach_next(struct walk *walk, const struct code *code, struct pair pair)
 {
     struct follow follow;
@@ -31,8 +30,8 @@ static void reach_next(struct walk *walk, const struct code *code, struct pair p
             reach(walk, follow.next[i]);
 }
 
-/* "A place is bad if a reached pair has one of those reasons or a reached start lies among its parameters."
- * `start` is the nearest reached start after the place, or the end. */
+/* H3, H4: whether a place is bad, by a reason or by what lies among its parameters. `start` is the nearest
+ * reached place after it, or the end. */
 static bool is_bad(const struct code *code, const uint8_t *map, uint32_t place, uint32_t start)
 {
     for (uint32_t state = STATE_MAIN; state <= STATE_SUBROUTINE; state++) {
@@ -48,6 +47,7 @@ static bool is_bad(const struct code *code, const uint8_t *map, uint32_t place, 
     return false;
 }
 
+/* H1, H2, H3, H4, H5: the path rule. */
 struct path model_path(const struct submission *submission, uint8_t *map, struct pair *room)
 {
     struct walk walk = {map, room, 0};
@@ -55,7 +55,7 @@ struct path model_path(const struct submission *submission, uint8_t *map, struct
     struct code code = model_code(submission);
     uint32_t start;
 
-    /* "(place 0, main) is reached if there is a word" */
+    /* H1: where every path begins. */
     if (code.count != 0) {
         memset(map, 0, code.count);
         reach(&walk, (struct pair){0, STATE_MAIN});

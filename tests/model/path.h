@@ -1,4 +1,5 @@
-/* A model of the path rule, written from the paper alone: which pairs are reached, and what is bad. */
+/* A model of the path rule, written from the rules of docs/CARD.md alone, never from the code: which pairs
+ * are reached, and what is bad. */
 #ifndef MODEL_PATH_H
 #define MODEL_PATH_H
 
@@ -10,9 +11,8 @@ struct path {
     uint32_t place;
 };
 
-/* Writes the map of exactly the reached pairs, a byte a word: 1 for main plus 2 for inside a subroutine.
- * Level, SLI, words and permit list of the submission must not be refused; its own map is not looked at. The
- * room is lent for two pairs a word. */
+/* H5: writes the exact map. Level, SLI, words and permit list of the submission must not be refused; its own
+ * map is not looked at. The room is lent for two pairs a word. */
 struct path model_path(const struct submission *submission, uint8_t *map, struct pair *room);
 
 #endif

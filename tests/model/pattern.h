@@ -9,7 +9,7 @@
 
 enum { PATTERNS = 8 };
 
-/* Bit 31 first; the pattern of reading number n is at n - 1. */
+/* W1, W2, W3, W4, W5, W6, W7, W8: bit 31 first; the pattern of reading number n is at n - 1. */
 static const char *const patterns[PATTERNS] = {
     "000CCCCCCCCCCC00SSSMMMMMMMMMMM00", /* increasing methods */
     "010CCCCCCCCCCC00SSSMMMMMMMMMMM00", /* non-increasing methods */

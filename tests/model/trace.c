@@ -5,8 +5,7 @@
 
 /* ---- Names ---- */
 
-/* "`kind` is command, count, bind, ref, event, dma, offset, acquire, release, wait, forward or error, in the
- * library also entry, discard, idle and stopped" */
+/* S30, T5: the names of the kinds. */
 const char *model_kind_name(uint32_t kind)
 {
     static const char *const names[] = {
@@ -22,7 +21,7 @@ const char *model_kind_name(uint32_t kind)
     return names[kind];
 }
 
-/* "the name, as NON_CACHE or SEMAPHORE_2" */
+/* T8, T9: the names of the causes, where there are two the pusher's. */
 const char *model_cause_name(uint32_t pusher_error, uint32_t puller_error)
 {
     static const char *const pusher_names[] = {
@@ -41,20 +40,21 @@ const char *model_cause_name(uint32_t pusher_error, uint32_t puller_error)
 
 /* ---- Lines ---- */
 
-/* "numbers are decimal" */
+/* T3, T10: the line of a step. */
 void model_trace_step(FILE *out, uint32_t step, uint64_t get, struct answer answer)
 {
     fprintf(out, "step=%" PRIu32 " get=%" PRIu64 " kind=%s", step, get, model_kind_name(answer.kind));
-    /* "only methods taken or discarded have further fields, error and a retry (acquire or wait) none" */
+    /* T4: the fields, where the event has them. */
     if (answer.fields)
         fprintf(out, " subc=%" PRIu32 " mthd=%" PRIu32 " param=%" PRIu32, answer.subchannel, answer.method,
                 answer.parameter);
     fputc('\n', out);
 }
 
+/* T7, T10: the last line. */
 void model_trace_end(FILE *out, uint32_t end, uint32_t steps, const struct channel *channel)
 {
-    /* "after error stands cause= with the name" */
+    /* T7: an error alone has a cause. */
     if (end == ENDED_ERROR)
         fprintf(out, "end=error cause=%s", model_cause_name(channel->pusher_error, channel->puller_error));
     else
@@ -64,8 +64,7 @@ void model_trace_end(FILE *out, uint32_t end, uint32_t steps, const struct chann
 
 /* ---- The run ---- */
 
-/* "level 3, SLI off, empty table, [...] limit 0xffffffff, put at the end": at level 3 there is no IB mode.
- * Nothing of that is refused. */
+/* T1: the channel of the program. Nothing of that is refused. */
 static struct channel open_channel(size_t word_count)
 {
     struct setup setup = {{3, MODE_NV04, false}, 0, UINT32_MAX, 0};
@@ -76,7 +75,8 @@ static struct channel open_channel(size_t word_count)
     return channel;
 }
 
-/* Whether a further step would be idle: one of a copy, with semaphore words of its own to write. */
+/* S8, T6: whether a further step would be idle. It is one of a copy, with semaphore words of its own to
+ * write. */
 static bool would_idle(const struct channel *channel, const struct lent *lent)
 {
     uint32_t semaphores[TRACE_SEMAPHORES];
@@ -88,7 +88,7 @@ static bool would_idle(const struct channel *channel, const struct lent *lent)
     return model_step(&further, &further_lent).kind == KIND_IDLE;
 }
 
-/* "`end` is error if the channel is stopped, else idle if a further step would be, else budget" */
+/* T6: how a run ends that ends here. */
 static uint32_t end_of(const struct channel *channel, const struct lent *lent)
 {
     if (channel->pusher_error != 0 || channel->puller_error != 0)
@@ -96,7 +96,7 @@ static uint32_t end_of(const struct channel *channel, const struct lent *lent)
     return would_idle(channel, lent) ? ENDED_IDLE : ENDED_BUDGET;
 }
 
-/* A line a step, then the end line. */
+/* T1, T6, T7: a line a step, then the last one. */
 static struct traced trace_words(FILE *out, const uint32_t *words, size_t count)
 {
     uint32_t semaphores[TRACE_SEMAPHORES] = {0};
@@ -121,17 +121,18 @@ static struct traced trace_words(FILE *out, const uint32_t *words, size_t count)
     return traced;
 }
 
-/* "little-endian words" */
+/* W17: the lowest byte first. */
 static uint32_t word_at(const uint8_t *bytes)
 {
     return (uint32_t)bytes[0] | (uint32_t)bytes[1] << 8 | (uint32_t)bytes[2] << 16 | (uint32_t)bytes[3] << 24;
 }
 
+/* R29, T2: the text, which with a refusal is one line. */
 struct traced model_trace(FILE *out, const uint8_t *bytes, size_t length)
 {
     uint32_t words[TRACE_WORDS];
 
-    /* "Over 32,768 bytes prints only refused=SIZE (tried first), a part word refused=LENGTH." */
+    /* R29: too many bytes come before a part word. */
     if (length > 4 * TRACE_WORDS) {
         fputs("refused=SIZE\n", out);
         return (struct traced){.end = ENDED_SIZE};

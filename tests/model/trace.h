@@ -1,4 +1,5 @@
-/* A model of the program that prints what a channel does with words, written from the paper alone. */
+/* A model of the program that prints what a channel does with words, written from the rules of docs/CARD.md
+ * alone, never from the code. */
 #ifndef MODEL_TRACE_H
 #define MODEL_TRACE_H
 
@@ -6,10 +7,10 @@
 
 #include "channel.h"
 
-/* "little-endian words [...], at most 8,192, [...] 1,024 zero semaphore words, [...] at most 65,536 steps" */
+/* T1, T2, T6: the most words that are read, the semaphore words that are lent, and the most steps. */
 enum { TRACE_WORDS = 8192, TRACE_SEMAPHORES = 1024, TRACE_STEPS = 65536 };
 
-/* How a text ends: with one of the two refusals, or with an end line. */
+/* T2, T7: how a text ends, with one of the two refusals or with an end line. */
 enum { ENDED_SIZE = 1, ENDED_LENGTH = 2, ENDED_IDLE = 3, ENDED_BUDGET = 4, ENDED_ERROR = 5 };
 
 /* What a text tells, for those who count: its end, what stopped the channel (0 for none), and how many steps
@@ -29,7 +30,7 @@ struct traced model_trace(FILE *out, const uint8_t *bytes, size_t length);
 void model_trace_step(FILE *out, uint32_t step, uint64_t get, struct answer answer);
 void model_trace_end(FILE *out, uint32_t end, uint32_t steps, const struct channel *channel);
 
-/* The paper's names. Of the two errors that can stop a channel one is 0. */
+/* The names of kinds and of causes. Of the two errors that can stop a channel, a run leaves one at 0. */
 const char *model_kind_name(uint32_t kind);
 const char *model_cause_name(uint32_t pusher_error, uint32_t puller_error);
 

@@ -157,13 +157,13 @@ static void print_counts(const struct cases *cases)
 
 enum { ROW_WORDS = 8 };
 
-/* Every kind and every cause that the program can come to. */
+/* T1, T3, T4, T5, T7, T8: every kind and every cause that the program can come to. */
 static const struct row {
     const char *name;
     uint32_t count;
     uint32_t words[ROW_WORDS];
 } rows[] = {
-    {"paper", 2, {0x00040050, 0x00000007}},
+    {"printed", 2, {0x00040050, 0x00000007}},
     {"no-words", 0, {0}},
     {"count-0", 4, {0x00000000, 0x4000fffc, 0x0000e004, 0x00000180}},
 
@@ -231,8 +231,8 @@ static void put_rows(struct cases *cases)
 
 /* ---- Lengths ---- */
 
-/* "Over 32,768 bytes prints only refused=SIZE (tried first), a part word refused=LENGTH." The words that are
- * there would print lines. */
+/* R8, R9, R29, T2: too many bytes, part words among them, and part words alone. The words that are there
+ * would print lines. */
 static void put_lengths(struct cases *cases)
 {
     static const struct {
@@ -251,7 +251,7 @@ static void put_lengths(struct cases *cases)
     }
 }
 
-/* "at most 8,192" words: all of count 0; refs, in runs as long as a command can have them; any words. */
+/* R29, T2: 8,192 words, all of count 0; refs, in runs as long as a command can have them; any words. */
 static void put_most_words(struct cases *cases)
 {
     give_nothing();
@@ -297,6 +297,7 @@ static uint32_t jump_to_end(uint32_t zeros)
     return 0x20000000 | 4 * (CALLS + zeros + 1 + SUBROUTINE);
 }
 
+/* T6, T7: a run without end, and those that end with step 65,536 or would with the next. */
 static void put_long_runs(struct cases *cases)
 {
     give_nothing();
@@ -327,7 +328,7 @@ static void give_run(struct draw *draw, uint32_t form, uint32_t method, uint32_t
         give_word(draw_word(draw));
 }
 
-/* "0x64: below level 4, any bit outside 0xffc: SEMAPHORE 1" */
+/* P11: an offset, good or not. */
 static void give_offset(uint32_t form, uint32_t offset)
 {
     give_word(form | 1 << 18 | 0x64);

@@ -1,4 +1,4 @@
-/* The self-test of the model of the program: texts worked out by hand from the paper, the longest runs, and a
+/* The self-test of the model of the program: texts worked out by hand from the rules, the longest runs, and a
  * second reading of what the program can come to, on drawn words.
  *
  * What it can come to is little: with an empty table every lookup is NO_HASH, so that nothing is ever bound.
@@ -162,18 +162,19 @@ struct row {
     const char *text;
 };
 
+/* T1, T3, T4, T5, T7, T8, T10: each kind and each cause that the program can come to, with its lines. */
 static const struct row rows[] = {
-    {"For 0x00040050, 0x00000007 it prints exactly", 2, {0x00040050, 0x00000007},
+    {"the printed example", 2, {0x00040050, 0x00000007},
      "step=1 get=0 kind=command\n"
      "step=2 get=4 kind=ref subc=0 mthd=80 param=7\n"
      "end=idle steps=2 get=8 ref=7\n"},
     {"No words", 0, {0}, "end=idle steps=0 get=0 ref=0\n"},
 
     /* Commands. */
-    {"A command with count 0 does nothing", 1, {0x00000000},
+    {"a command with count 0", 1, {0x00000000},
      "step=1 get=0 kind=command\n"
      "end=idle steps=1 get=4 ref=0\n"},
-    {"A command with count 0 does nothing, whatever the method", 3, {0x0000e004, 0x40000004, 0x00001ffc},
+    {"commands with count 0, whatever the method", 3, {0x0000e004, 0x40000004, 0x00001ffc},
      "step=1 get=0 kind=command\n"
      "step=2 get=4 kind=command\n"
      "step=3 get=8 kind=command\n"
@@ -215,11 +216,11 @@ static const struct row rows[] = {
      "end=idle steps=1 get=4 ref=0\n"},
 
     /* Methods. */
-    {"ref takes the parameter", 2, {0x0004e050, 0xffffffff},
+    {"the reference counter", 2, {0x0004e050, 0xffffffff},
      "step=1 get=0 kind=command\n"
      "step=2 get=4 kind=ref subc=7 mthd=80 param=4294967295\n"
      "end=idle steps=2 get=8 ref=4294967295\n"},
-    {"ref takes each parameter, whatever it looks like", 3, {0x40082050, 0x20000000, 0x00000003},
+    {"the reference counter, whatever its parameters look like", 3, {0x40082050, 0x20000000, 0x00000003},
      "step=1 get=0 kind=command\n"
      "step=2 get=4 kind=ref subc=1 mthd=80 param=536870912\n"
      "step=3 get=8 kind=ref subc=1 mthd=80 param=3\n"
@@ -243,7 +244,7 @@ static const struct row rows[] = {
      "step=1 get=0 kind=command\n"
      "end=idle steps=1 get=4 ref=0\n"},
 
-    /* Pusher errors: "1 to 4 leave the read address past the word", PROTECTION leaves it. */
+    /* S28, T7: pusher errors, with the read address past the word, but for PROTECTION. */
     {"CALL", 2, {0x00000006, 0x0000000a},
      "step=1 get=0 kind=command\n"
      "step=2 get=4 kind=error\n"
@@ -256,7 +257,7 @@ static const struct row rows[] = {
      "step=1 get=0 kind=command\n"
      "step=2 get=4 kind=error\n"
      "end=error cause=NON_CACHE steps=2 get=8 ref=0\n"},
-    {"0x10 to 0x24 at level 5", 2, {0x00040010, 0x00000000},
+    {"NON_CACHE below level 5", 2, {0x00040010, 0x00000000},
      "step=1 get=0 kind=command\n"
      "step=2 get=4 kind=error\n"
      "end=error cause=NON_CACHE steps=2 get=8 ref=0\n"},
@@ -287,7 +288,7 @@ static const struct row rows[] = {
      "step=1 get=0 kind=command\n"
      "step=2 get=4 kind=error\n"
      "end=error cause=RESERVED_CMD steps=2 get=8 ref=0\n"},
-    {"RESERVED_CMD: a long form is IB only", 2, {0x00034100, 0x00000001},
+    {"RESERVED_CMD: a long form in NV04-style", 2, {0x00034100, 0x00000001},
      "step=1 get=0 kind=error\n"
      "end=error cause=RESERVED_CMD steps=1 get=4 ref=0\n"},
     {"RESERVED_CMD: 0x00020004", 1, {0x00020004},
@@ -297,7 +298,7 @@ static const struct row rows[] = {
      "step=1 get=0 kind=command\n"
      "step=2 get=8 kind=error\n"
      "end=error cause=PROTECTION steps=2 get=8 ref=0\n"},
-    {"PROTECTION: 0x00010001 is a jump to 0x00010000", 1, {0x00010001},
+    {"PROTECTION after a jump, whatever its upper half", 1, {0x00010001},
      "step=1 get=0 kind=command\n"
      "step=2 get=65536 kind=error\n"
      "end=error cause=PROTECTION steps=2 get=65536 ref=0\n"},
@@ -316,7 +317,7 @@ static const struct row rows[] = {
      "step=2 get=4294967292 kind=error\n"
      "end=error cause=PROTECTION steps=2 get=4294967292 ref=0\n"},
 
-    /* Puller errors: "the pusher keeps the advance of that step". */
+    /* P21, T7: puller errors, with the read address past the word. */
     {"0x00: NO_HASH", 2, {0x00040000, 0x00000000},
      "step=1 get=0 kind=command\n"
      "step=2 get=4 kind=error\n"
@@ -358,12 +359,12 @@ static const struct row rows[] = {
      "step=2 get=4 kind=offset subc=0 mthd=100 param=8\n"
      "step=3 get=8 kind=error\n"
      "end=error cause=SEMAPHORE_1 steps=3 get=12 ref=0\n"},
-    {"0x68: below level 4 unbound, though the word is equal", 3, {0x00080064, 0x00000008, 0x00000000},
+    {"0x68: no object, though the word is equal", 3, {0x00080064, 0x00000008, 0x00000000},
      "step=1 get=0 kind=command\n"
      "step=2 get=4 kind=offset subc=0 mthd=100 param=8\n"
      "step=3 get=8 kind=error\n"
      "end=error cause=SEMAPHORE_2 steps=3 get=12 ref=0\n"},
-    {"0x6c: below level 4 unbound", 4, {0x00040050, 0x00000006, 0x0004006c, 0x00000001},
+    {"0x6c: no object", 4, {0x00040050, 0x00000006, 0x0004006c, 0x00000001},
      "step=1 get=0 kind=command\n"
      "step=2 get=4 kind=ref subc=0 mthd=80 param=6\n"
      "step=3 get=8 kind=command\n"
@@ -383,7 +384,7 @@ static void test_rows(void)
 
 /* ---- Lengths ---- */
 
-/* "Over 32,768 bytes prints only refused=SIZE (tried first), a part word refused=LENGTH." */
+/* R8, R9, R21, R29, T2: too many bytes, part words among them, and part words alone. */
 static void test_lengths(void)
 {
     static const size_t sizes[] = {32769, 32770, 32771, 32772, 32773, 65535, 65536};
@@ -394,7 +395,7 @@ static void test_lengths(void)
         input_length = sizes[i];
         want_nothing();
         want("refused=SIZE\n");
-        prints_wanted("Over 32,768 bytes");
+        prints_wanted("too many bytes");
     }
     for (unsigned i = 0; i < sizeof parts / sizeof parts[0]; i++) {
         input_length = parts[i];
@@ -404,7 +405,7 @@ static void test_lengths(void)
     }
 }
 
-/* 8,192 words are not too many. */
+/* R29, T2: 8,192 words are not too many. */
 static void test_most_words(void)
 {
     give_nothing();
@@ -413,11 +414,12 @@ static void test_most_words(void)
     for (uint32_t i = 0; i < TRACE_WORDS; i++)
         want("step=%" PRIu32 " get=%" PRIu32 " kind=command\n", i + 1, 4 * i);
     want("end=idle steps=8192 get=32768 ref=0\n");
-    prints_wanted("at most 8,192");
+    prints_wanted("8,192 words");
 }
 
 /* ---- At most 65,536 steps ---- */
 
+/* T6, T7: a jump to itself. */
 static void test_budget(void)
 {
     give_words((const uint32_t[]){0x20000000}, 1);
@@ -425,10 +427,10 @@ static void test_budget(void)
     for (uint32_t i = 1; i <= 65536; i++)
         want("step=%" PRIu32 " get=0 kind=command\n", i);
     want("end=budget steps=65536 get=0 ref=0\n");
-    prints_wanted("at most 65,536 steps");
+    prints_wanted("65,536 steps");
 }
 
-/* Two refs and a jump back, 16,384 times. */
+/* T6, T7: two refs and a jump back, 16,384 times. */
 static void test_budget_with_ref(void)
 {
     give_words((const uint32_t[]){0x40080050, 0x00000005, 0x00000006, 0x20000000}, 4);
@@ -440,7 +442,7 @@ static void test_budget_with_ref(void)
         want("step=%" PRIu32 " get=12 kind=command\n", i + 3);
     }
     want("end=budget steps=65536 get=0 ref=6\n");
-    prints_wanted("at most 65,536 steps");
+    prints_wanted("65,536 steps");
 }
 
 /* The long run: 4,095 calls of a subroutine of 15 words take 16 steps each, 65,520 in all; some words of
@@ -474,14 +476,14 @@ static void want_long_run(uint32_t zeros, uint32_t steps)
         want("step=%" PRIu32 " get=%" PRIu32 " kind=command\n", ++step, 4 * (CALLS + i));
 }
 
-/* The last word is a jump to the end, address 4 * (4,095 + zeros + 1 + 15), or a reserved word, each as step
- * 65,536 and as the one after it. */
+/* S8, T6, T7: the last word is a jump to the end, address 4 * (4,095 + zeros + 1 + 15), or a reserved word,
+ * each as step 65,536 and as the one after it. */
 static void test_last_step(void)
 {
     give_long_run(15, 0x20000000 | 16504);
     want_long_run(15, 16);
     want("end=idle steps=65536 get=16504 ref=0\n");
-    prints_wanted("idle reached exactly at step 65,536 is idle");
+    prints_wanted("idle after 65,536 steps");
 
     give_long_run(16, 0x20000000 | 16508);
     want_long_run(16, 16);
@@ -507,6 +509,7 @@ static void test_last_step(void)
 
 /* ---- Lines that no run has ---- */
 
+/* S29, T3, T4, T5: the other kinds, and those that a retry has too. */
 static const struct {
     struct answer answer;
     const char *text;
@@ -526,7 +529,7 @@ static const struct {
     {{0, KIND_STOPPED, false, 0, 0, 0}, "step=9 get=1099511627772 kind=stopped\n"},
 };
 
-/* "numbers are decimal", a read address of 40 bits too. */
+/* T3, T4, T10: decimal numbers, with a read address of 40 bits. */
 static void test_lines(void)
 {
     for (size_t i = 0; i < sizeof lines / sizeof lines[0]; i++) {
@@ -540,6 +543,7 @@ static void test_lines(void)
     }
 }
 
+/* T7, T8, T9: the other causes, and the one that is told of two. */
 static const struct {
     uint32_t pusher_error;
     uint32_t puller_error;
@@ -548,6 +552,7 @@ static const struct {
     {PUSHER_IB, 0, "end=error cause=IB steps=3 get=16 ref=5\n"},
     {0, PULLER_SEMAPHORE_3, "end=error cause=SEMAPHORE_3 steps=3 get=16 ref=5\n"},
     {0, PULLER_SEMAPHORE_4, "end=error cause=SEMAPHORE_4 steps=3 get=16 ref=5\n"},
+    {PUSHER_CALL, PULLER_NO_HASH, "end=error cause=CALL steps=3 get=16 ref=5\n"},
 };
 
 static void test_ends(void)
@@ -581,13 +586,14 @@ struct simple {
     const char *cause;
 };
 
+/* W17, S9: the word at an address, its lowest byte first. */
 static uint32_t given_word(uint32_t address)
 {
     return input[address] | (uint32_t)input[address + 1] << 8 | (uint32_t)input[address + 2] << 16 |
            (uint32_t)input[address + 3] << 24;
 }
 
-/* What a parameter comes to: the name of a kind, or NULL and a cause. */
+/* S24, P2, P6, P7, P11, P13, P18, P19: what a parameter comes to, the name of a kind, or NULL and a cause. */
 static const char *simple_parameter(struct simple *simple, uint32_t parameter)
 {
     switch (simple->method) {
@@ -620,6 +626,7 @@ static const char *simple_parameter(struct simple *simple, uint32_t parameter)
     }
 }
 
+/* S21: a call. */
 static void simple_call(struct simple *simple, uint32_t target)
 {
     if (simple->inside)
@@ -631,6 +638,7 @@ static void simple_call(struct simple *simple, uint32_t target)
     simple->get = target;
 }
 
+/* S22: a return. */
 static void simple_return(struct simple *simple)
 {
     if (!simple->inside)
@@ -641,6 +649,7 @@ static void simple_return(struct simple *simple)
     simple->inside = false;
 }
 
+/* S16, S17: a run. */
 static void simple_run(struct simple *simple, uint32_t word)
 {
     if ((word & 0x1ffc0000) == 0)
@@ -651,7 +660,7 @@ static void simple_run(struct simple *simple, uint32_t word)
     simple->rise = (word & 0x40000000) == 0 ? 4 : 0;
 }
 
-/* A command; the read address is past its word. */
+/* S20, S21, S22, S23: a command; the read address is past its word. */
 static void simple_command(struct simple *simple, uint32_t word)
 {
     uint32_t target = word & 0xfffffffc;
@@ -670,7 +679,7 @@ static void simple_command(struct simple *simple, uint32_t word)
         simple->cause = "RESERVED_CMD";
 }
 
-/* One step and its line. */
+/* S10, S11, S14, S25, T3, T4: one step and its line. */
 static void simple_step(struct simple *simple, uint32_t step)
 {
     uint32_t get = simple->get;
@@ -701,6 +710,7 @@ static void simple_step(struct simple *simple, uint32_t step)
              word);
 }
 
+/* T1, T6, T7: the text of a whole run. */
 static void want_second_reading(void)
 {
     struct simple simple = {0};

@@ -6,61 +6,60 @@ static uint32_t bits(uint32_t word, unsigned high, unsigned low)
     return (word >> low) & (UINT32_MAX >> (31 - (high - low)));
 }
 
-/* "The first in order is given" */
+/* R21, R22: the first that applies. */
 uint32_t model_setting_refusal(struct setting setting)
 {
-    /* "level above 5" */
+    /* R1: there is no such level. */
     if (setting.level > 5)
         return REFUSAL_LEVEL;
-    /* "mode above 1, or IB below level 4" */
+    /* R2: there is no such mode, or not at this level. */
     if (setting.mode > MODE_IB || (setting.mode == MODE_IB && setting.level < 4))
         return REFUSAL_MODE;
-    /* "SLI enabled below level 3" */
+    /* R4: SLI that the level doesn't have. */
     if (setting.sli && setting.level < 3)
         return REFUSAL_SLI;
     return REFUSAL_NONE;
 }
 
-/* The form of a word with "17-16 = 00" unmet: those of which the paper gives the whole upper half. */
+/* W3, W4, W5: the forms whose whole upper half is fixed, of a word whose bits 17-16 are not 00. */
 static uint32_t form_by_upper_half(uint32_t word)
 {
     switch (bits(word, 31, 16)) {
     case 0x0001:
-        /* "Upper half 0x0001, bits 3-0 zero: SLI conditional" */
+        /* W3: bits 3-0 are fixed too. */
         return bits(word, 3, 0) == 0 ? READING_SLI : READING_RESERVED;
     case 0x0002:
-        /* "0x00020000: return": the one word, so that 0x00020004 is reserved. */
+        /* W4: the one word, so that 0x00020004 is reserved. */
         return word == 0x00020000 ? READING_RETURN : READING_RESERVED;
     case 0x0003:
-        /* "Upper half 0x0003, bits 1-0 = 00: long non-increasing" */
+        /* W5: bits 1-0, the other fixed ones, are 00 here. */
         return READING_LONG;
     default:
         return READING_RESERVED;
     }
 }
 
-/* The form of a word whose bits 1-0 are 00. */
+/* W1, W2, W6: the form of a word whose bits 1-0 are 00. */
 static uint32_t form_by_upper_bits(uint32_t word)
 {
     uint32_t kind = bits(word, 31, 29);
 
-    /* "Bits 31-29 = 001, bits 1-0 = 00: old jump"; bits 17-16 belong to its target. */
+    /* W6: bits 17-16 belong to its target. */
     if (kind == 1)
         return READING_OLD_JUMP;
     if (bits(word, 17, 16) != 0)
         return form_by_upper_half(word);
-    /* "Bits 31-29 = 000, 17-16 = 00, 1-0 = 00: increasing." */
+    /* W1: 31-29 = 000. */
     if (kind == 0)
         return READING_INCREASING;
-    /* "010 in place of 000: non-increasing" */
+    /* W2: 31-29 = 010. */
     if (kind == 2)
         return READING_NON_INCREASING;
     return READING_RESERVED;
 }
 
-/* The form that a word has, whether or not it may be used.
- * "Bits 1-0 = 01: jump; 10: call". These two bits decide first: "Jump and call decided by the upper bits" is
- * a misreading, "0x00010001 is a jump to 0x00010000 at level 2." */
+/* W7, W8, W10: the form that a word has, whether or not it may be used. Bits 1-0 come first: where they are
+ * 01 or 10, what stands in the upper half is part of a target. */
 static uint32_t form(uint32_t word)
 {
     switch (bits(word, 1, 0)) {
@@ -71,12 +70,12 @@ static uint32_t form(uint32_t word)
     case 2:
         return READING_CALL;
     default:
-        /* "Everything else is reserved." */
+        /* W12: no form has 11 there. */
         return READING_RESERVED;
     }
 }
 
-/* Whether a command may be used at a setting that is not refused. */
+/* W11: whether a command may be used at a setting that is not refused. */
 static bool available(struct setting setting, uint32_t number)
 {
     bool nv04 = setting.mode == MODE_NV04;
@@ -85,24 +84,24 @@ static bool available(struct setting setting, uint32_t number)
     case READING_INCREASING:
         return true;
     case READING_NON_INCREASING:
-        /* "non-increasing, level 1 up" */
+        /* W2: from level 1 on. */
         return setting.level >= 1;
     case READING_SLI:
-        /* "level 3 up and enabled" */
+        /* W3: from level 3 on, with SLI on. */
         return setting.level >= 3 && setting.sli;
     case READING_LONG:
-        /* "long non-increasing, IB only" */
+        /* W5: in IB mode alone. */
         return !nv04;
     case READING_OLD_JUMP:
-        /* "Jumps, call and return are NV04-style only." */
+        /* W6: in NV04-style alone. */
         return nv04;
     case READING_RETURN:
     case READING_JUMP:
     case READING_CALL:
-        /* "return, level 2 up", "jump; 10: call; level 2 up" */
+        /* W4, W7, W8: in NV04-style alone, from level 2 on. */
         return nv04 && setting.level >= 2;
     default:
-        /* Reserved words and readings that are refusals are no commands. */
+        /* W12, X5: reserved words and readings that are refusals are no commands. */
         return false;
     }
 }
@@ -112,10 +111,11 @@ static struct reading reading(uint32_t number, uint32_t value0, uint32_t value1,
     return (struct reading){number, {value0, value1, value2}};
 }
 
-/* The reading of a word that has the form `number`. */
+/* W1, W2, W3, W4, W5, W6, W7, W8, W9: the reading of a word that has the form `number`. */
 static struct reading take_apart(uint32_t number, uint32_t word, uint32_t next)
 {
-    /* "Count bits 28-18, subchannel 15-13, method bits 12-2." Times 4 the method is a byte number. */
+    /* W1, W2, W5, W9: the numbers that these forms have in the same bits. Times 4 the method is a byte
+     * number. */
     uint32_t count = bits(word, 28, 18);
     uint32_t subchannel = bits(word, 15, 13);
     uint32_t method = 4 * bits(word, 12, 2);
@@ -125,35 +125,34 @@ static struct reading take_apart(uint32_t number, uint32_t word, uint32_t next)
     case READING_NON_INCREASING:
         return reading(number, count, subchannel, method);
     case READING_SLI:
-        /* "mask bits 15-4" */
+        /* W3: the mask is in bits 15-4. */
         return reading(number, bits(word, 15, 4), 0, 0);
     case READING_LONG:
-        /* "the low 24 bits of the next word are the count, the upper 8 are ignored" */
+        /* W5, W14: the count is in bits 23-0 of the next word, whatever stands above them. */
         return reading(number, subchannel, method, bits(next, 23, 0));
     case READING_OLD_JUMP:
-        /* "target bits 28-2" */
+        /* W6, W9: the target is in bits 28-2. */
         return reading(number, 4 * bits(word, 28, 2), 0, 0);
     case READING_JUMP:
     case READING_CALL:
-        /* "target is the word with those two bits cleared" */
+        /* W7, W8, W9: the target is in bits 31-2. */
         return reading(number, 4 * bits(word, 31, 2), 0, 0);
     default:
         return reading(number, 0, 0, 0);
     }
 }
 
-/* The reading at a setting that is not refused. */
+/* W12: the reading at a setting that is not refused, where a form that may not be used is reserved. */
 static struct reading read_accepted(struct setting setting, uint32_t word, uint32_t next)
 {
     uint32_t number = form(word);
 
-    /* Document 004: "if the one that matches cannot be used in current mode, the RESERVED_CMD DMA_PUSHER
-     * error is raised". */
     if (!available(setting, number))
         return reading(READING_RESERVED, 0, 0, 0);
     return take_apart(number, word, next);
 }
 
+/* R22, W13: a word by itself. */
 struct reading model_read(struct setting setting, uint32_t word, uint32_t next)
 {
     uint32_t refusal = model_setting_refusal(setting);
@@ -163,16 +162,18 @@ struct reading model_read(struct setting setting, uint32_t word, uint32_t next)
     return read_accepted(setting, word, next);
 }
 
+/* R23, W13, W16: a word at a place of lent words. */
 struct reading model_read_at(struct setting setting, const uint32_t *words, size_t count, uint64_t place)
 {
     uint32_t refusal = model_setting_refusal(setting);
     uint32_t next;
 
-    /* "Reading a word, listing: 1, 2, 4, 8." */
+    /* R8, R23: SIZE comes last. */
     if (refusal == REFUSAL_NONE && count > SIZE_LIMIT)
         refusal = REFUSAL_SIZE;
     if (refusal != REFUSAL_NONE)
         return reading(READING_REFUSED, refusal, 0, 0);
+    /* W16: past the last word nothing is read, and behind it a next word counts as 0. */
     if (place >= count)
         return reading(READING_PAST, 0, 0, 0);
     next = count - place > 1 ? words[place + 1] : 0;
@@ -184,14 +185,13 @@ static bool fits(uint32_t number, unsigned width)
     return number <= UINT32_MAX >> (32 - width);
 }
 
-/* "an address or method not a multiple of 4" is refused; `width` counts the two low bits too. */
+/* X4: methods and targets, by their byte numbers; `width` counts the two low bits too. */
 static bool fits_by_four(uint32_t number, unsigned width)
 {
     return number % 4 == 0 && fits(number, width);
 }
 
-/* "FIELD: a number wider than its field, or an address or method not a multiple of 4". "Widths: [...] count
- * 24 bits, SLI mask 12, method number 11, engine 5, subchannel 3"; the count in a first word has 11 bits. */
+/* R10, X4: whether no number of a command is too wide, and each method and target in it a multiple of 4. */
 static bool fields_fit(struct reading command)
 {
     const uint32_t *value = command.value;
@@ -210,11 +210,12 @@ static bool fields_fit(struct reading command)
     case READING_CALL:
         return fits_by_four(value[0], 32);
     default:
+        /* X5: the return has no fields, and neither has what is no command. */
         return true;
     }
 }
 
-/* "Writer: 1, 2, 4, 10, 12, 11." A field that is wrong is told even where the form isn't available. */
+/* R21, R24, X4: the writer's order. A field that is wrong is told even where the form may not be used. */
 static uint32_t write_refusal(struct setting setting, struct reading command, uint32_t count, size_t room)
 {
     uint32_t refusal = model_setting_refusal(setting);
@@ -223,16 +224,16 @@ static uint32_t write_refusal(struct setting setting, struct reading command, ui
         return refusal;
     if (!fields_fit(command))
         return REFUSAL_FIELD;
-    /* "FORM: command not available at that level, mode and SLI setting" */
+    /* R12: not at this setting, or no command at all. */
     if (!available(setting, command.number))
         return REFUSAL_FORM;
-    /* "ROOM: output shorter than the words to be written" */
+    /* R11: no room for the words. */
     if (room < count)
         return REFUSAL_ROOM;
     return REFUSAL_NONE;
 }
 
-/* The first word of a command whose fields fit. A method's byte number is in place at bits 12-2. */
+/* W9, X1: the first word of a command whose fields fit. A method's byte number is in place at bits 12-2. */
 static uint32_t put_together(struct reading command)
 {
     const uint32_t *value = command.value;
@@ -253,29 +254,30 @@ static uint32_t put_together(struct reading command)
     case READING_CALL:
         return value[0] | 2;
     default:
-        /* The one command left is the return. */
+        /* W4: the one command left is the return. */
         return 0x00020000;
     }
 }
 
+/* X1, X2: the words go to the front of the output, and the rest of it stays. */
 struct written model_write(struct setting setting, struct reading command, uint32_t *out, size_t room)
 {
-    /* "The writer writes a command's first word and a long form's count word, no parameters" */
+    /* X1, X2: a long form has its count word too; parameters are not written. */
     uint32_t count = command.number == READING_LONG ? 2 : 1;
     uint32_t refusal = write_refusal(setting, command, count, room);
 
-    /* "No refusal writes lent memory." */
+    /* R31: with a refusal the output stays. */
     if (refusal != REFUSAL_NONE)
         return (struct written){refusal, 0};
     out[0] = put_together(command);
-    /* "the upper 8 are ignored and written as 0": the count fits 24 bits. */
+    /* X1, X3: the count fits 24 bits, so that 0 stands above it. */
     if (count == 2)
         out[1] = command.value[2];
     return (struct written){REFUSAL_NONE, count};
 }
 
-/* "Present: 0x00 always; 0x10 to 0x24 at level 5; 0x50 from 1; 0x60 to 0x6c from 2; 0x80 from 3." Only "a
- * method below 0x100" can be lacking. These are byte numbers; that of a large number has more than 32 bits. */
+/* W18: whether a level has a method. The numbers here are byte numbers; that of a large number has more than
+ * 32 bits. */
 bool model_present(uint32_t level, uint32_t number)
 {
     uint64_t method = UINT64_C(4) * number;

@@ -1,5 +1,5 @@
-/* A model of command words, written from the paper alone: what a word reads as, which word a command is
- * written as, and which methods below 0x100 a level has. */
+/* A model of command words, written from the rules of docs/CARD.md alone, never from the code: what a word
+ * reads as, which word a command is written as, and which methods below 0x100 a level has. */
 #ifndef MODEL_WORD_H
 #define MODEL_WORD_H
 
@@ -7,10 +7,11 @@
 #include <stddef.h>
 #include <stdint.h>
 
-/* "Modes: 0 NV04-style, 1 IB." */
+/* The two modes by their numbers. */
 enum { MODE_NV04 = 0, MODE_IB = 1 };
 
-/* The paper's table of refusals; 0 stands for none. */
+/* R1, R2, R3, R4, R5, R6, R7, R8, R9, R10, R11, R12, R13: the refusals by their numbers; 0 stands for
+ * none. */
 enum {
     REFUSAL_NONE = 0,
     REFUSAL_LEVEL = 1,
@@ -29,10 +30,11 @@ enum {
     REFUSAL_COUNT
 };
 
-/* "SIZE: pushbuffer or semaphore memory over 1,048,576 words" */
+/* R8: the most words that may be lent. */
 enum { SIZE_LIMIT = 1048576 };
 
-/* What a reading is. Only reading at a place can answer READING_PAST. */
+/* W1, W2, W3, W4, W5, W6, W7, W8, W12, W13, W16: what a reading is, by number. Only reading at a place can
+ * answer READING_PAST. */
 enum {
     READING_INCREASING = 1,
     READING_NON_INCREASING = 2,
@@ -67,10 +69,10 @@ struct written {
     uint32_t count;
 };
 
-/* The refusals that head every order, LEVEL, MODE and SLI: the first that a setting meets, or none. */
+/* R22: the first of LEVEL, MODE and SLI that a setting meets, or none. */
 uint32_t model_setting_refusal(struct setting setting);
 
-/* Reads a word; the next word matters to the long form alone. */
+/* Reads a word by itself; the next word matters to the long form alone. */
 struct reading model_read(struct setting setting, uint32_t word, uint32_t next);
 
 /* Reads the word at a place of the lent words. Where no word follows it, the next word counts as 0. */
@@ -79,8 +81,8 @@ struct reading model_read_at(struct setting setting, const uint32_t *words, size
 /* Writes a command into an output of `room` words. Values that the command doesn't use are not looked at. */
 struct written model_write(struct setting setting, struct reading command, uint32_t *out, size_t room);
 
-/* Whether a level has a method, given by its number, a fourth of its byte number; levels above 5 count as "at
- * level 5". */
+/* W18: whether a level has a method, given by its number, a fourth of its byte number; a level above 5 counts
+ * as 5. */
 bool model_present(uint32_t level, uint32_t number);
 
 #endif

@@ -1,4 +1,4 @@
-/* The self-test of the model of words: the paper's numbers, the patterns of document 004 as a second
+/* The self-test of the model of words: the rule book's words to try, the patterns of document 004 as a second
  * reading, and writing and reading back at every setting. */
 #include <inttypes.h>
 #include <stdio.h>
@@ -28,8 +28,9 @@ static bool same(struct reading a, struct reading b)
     return a.number == b.number && memcmp(a.value, b.value, sizeof a.value) == 0;
 }
 
-/* The paper's table, "level 3, NV04-style, SLI on unless said"; the row of level 0 with SLI off, as SLI is
- * refused there. Last the misreading to catch. */
+/* W1, W2, W3, W4, W5, W6, W7, W8, W9, W10, W11, W12, W14: the words to try, most of them at level 3 in
+ * NV04-style with SLI on; the row of level 0 has SLI off, as SLI is refused there. Last comes a jump that the
+ * upper half would make an SLI conditional. */
 static const struct row {
     struct setting setting;
     uint32_t word;
@@ -57,11 +58,11 @@ static void test_numbers(void)
         const struct row *row = &numbers[i];
         struct reading read = model_read(row->setting, row->word, row->next);
 
-        check(same(read, row->reading), "the paper's numbers", row->setting, row->word, row->next);
+        check(same(read, row->reading), "the words to try", row->setting, row->word, row->next);
     }
 }
 
-/* What document 004 says in brackets after each pattern, read as the paper reads it. */
+/* W11: what document 004 says in brackets after each pattern, read as the rules read it. */
 static bool pattern_usable(struct setting setting, uint32_t number)
 {
     static const uint32_t first_level[PATTERNS] = {0, 1, 3, 2, 4, 0, 2, 2};
@@ -76,6 +77,7 @@ static bool pattern_usable(struct setting setting, uint32_t number)
     return !flow || setting.mode == MODE_NV04;
 }
 
+/* W9, W14: the values that a word has by the pattern of its form. */
 static struct reading pattern_reading(uint32_t number, uint32_t word, uint32_t next)
 {
     const char *pattern = patterns[number - 1];
@@ -93,7 +95,7 @@ static struct reading pattern_reading(uint32_t number, uint32_t word, uint32_t n
     return (struct reading){number, {4 * target, 0, 0}};
 }
 
-/* The reading by the patterns, at a setting that is not refused. */
+/* W10, W11, W12: the reading by the patterns, at a setting that is not refused. */
 static struct reading read_by_patterns(struct setting setting, uint32_t word, uint32_t next)
 {
     struct reading found = {READING_RESERVED, {0, 0, 0}};
@@ -113,7 +115,8 @@ static struct reading read_by_patterns(struct setting setting, uint32_t word, ui
     return found;
 }
 
-/* A word that reads as a command is written back as it was, a count word without its upper 8 bits. */
+/* R12, R31, X1, X2, X3, X5: a command that was read is written as the word that it was, a count word without
+ * its upper 8 bits. What is reserved isn't written. */
 static void test_write_back(struct setting setting, uint32_t word, uint32_t next)
 {
     uint32_t out[3] = {~word, ~next, 7};
@@ -135,8 +138,9 @@ static void test_write_back(struct setting setting, uint32_t word, uint32_t next
     check(out[2] == 7, "later words stay", setting, word, next);
 }
 
-/* All settings that are not refused. */
 enum { ACCEPTED = 13 };
+
+/* R1, R2, R4: all settings that are not refused. */
 static const struct setting accepted[ACCEPTED] = {
     {0, MODE_NV04, false}, {1, MODE_NV04, false}, {2, MODE_NV04, false}, {3, MODE_NV04, false},
     {3, MODE_NV04, true},  {4, MODE_NV04, false}, {4, MODE_NV04, true},  {4, MODE_IB, false},
@@ -144,6 +148,7 @@ static const struct setting accepted[ACCEPTED] = {
     {5, MODE_IB, true},
 };
 
+/* W1, W2, W3, W4, W5, W6, W7, W8, W11, W12, X3: drawn words by the model and by the patterns. */
 static void test_words(struct draw *draw)
 {
     for (unsigned i = 0; i < 20000; i++) {
@@ -170,8 +175,8 @@ static bool is_accepted(struct setting setting)
     return false;
 }
 
-/* A refused setting is refused alike by reading, reading at a place and writing, even where the size, a
- * field, the form and the room are wrong as well. */
+/* R22, R23, R24, W13: a refused setting is refused alike by reading, reading at a place and writing, even
+ * where the size, a field, the form and the room are wrong as well. */
 static void test_refused_setting(struct setting setting)
 {
     struct reading wrong = {READING_LONG, {8, 3, UINT32_MAX}};
@@ -184,7 +189,7 @@ static void test_refused_setting(struct setting setting)
           0);
 }
 
-/* Every setting of levels 0 to 7 and modes 0 to 3. */
+/* R1, R2, R4: every setting of levels 0 to 7 and modes 0 to 3. */
 static void test_settings(void)
 {
     for (uint32_t i = 0; i < 64; i++) {
@@ -198,7 +203,8 @@ static void test_settings(void)
     }
 }
 
-/* "Writer: 1, 2, 4, 10, 12, 11." Each row has no room, and most are wrong in more than what they answer. */
+/* R10, R11, R12, R21, R24, X4, X5: the writer's order. Each row has no room, and most are wrong in more than
+ * what they answer. */
 static void test_orders(void)
 {
     static const struct {
@@ -255,7 +261,8 @@ static struct reading draw_command(struct draw *draw, struct setting setting)
     return command;
 }
 
-/* What is written reads back as the same command; "no refusal writes lent memory", ROOM included. */
+/* R11, R31, X1, X2, X3: a command that was written is the one that is read. A refusal leaves the output, ROOM
+ * too. */
 static void test_read_back(struct draw *draw, struct setting setting)
 {
     struct reading command = draw_command(draw, setting);
@@ -277,7 +284,7 @@ static void test_read_back(struct draw *draw, struct setting setting)
     check(out[2] == 13 && (wanted == 2 || out[1] == 12), "later words stay", setting, out[0], out[1]);
 }
 
-/* Places: the last word has no next word, and a place past the words isn't cut to 32 bits. */
+/* R8, R23, W14, W16: the last word has no next word, and a place past the words isn't cut to 32 bits. */
 static void test_places(void)
 {
     static uint32_t words[SIZE_LIMIT + 1] = {0x00034100, 0xff000005, 0x00034100, 9};
@@ -299,9 +306,8 @@ static void test_places(void)
     }
 }
 
-/* "Present: 0x00 always; 0x10 to 0x24 at level 5; 0x50 from 1; 0x60 to 0x6c from 2; 0x80 from 3." By the
- * count of methods below 0x100 at each level: 1, then 1 more, 4 more, 1 more, none more, 6 more. From 0x100,
- * number 0x40, all are there: also those whose byte number, cut to 32 bits, one might lack. */
+/* W18: by the count of methods below 0x100 at each level: 1, then 1 more, 4 more, 1 more, none more, 6 more.
+ * From 0x100, number 0x40, all are there: also those whose byte number, cut to 32 bits, one might lack. */
 static void test_present(void)
 {
     static const unsigned present[] = {1, 2, 6, 7, 7, 13, 13};

@@ -17,8 +17,8 @@ enum { READ = 1, READ_AT = 2, WRITE = 3, PRESENT = 4 };
 
 enum { GRID = 42, SETTINGS = 66 };
 
-/* Setting i of SETTINGS. The first GRID are levels 0 to 6 with modes 0 to 2 and SLI off and on; then come
- * numbers that a narrower type would cut to good ones. */
+/* R1, R2, R4: setting i of SETTINGS. The first GRID are levels 0 to 6 with modes 0 to 2 and SLI off and on;
+ * then come numbers that a narrower type would cut to good ones. */
 static struct setting setting_at(unsigned i)
 {
     static const uint32_t pairs[][2] = {
@@ -62,7 +62,8 @@ static uint32_t draw_any(struct draw *draw)
     return choice < PATTERNS ? draw_form(draw, patterns[choice]) : draw_word(draw);
 }
 
-/* Field limits: 0, 1, the largest but one and the largest, each field in turn, the others drawn. */
+/* W1, W2, W3, W4, W5, W6, W7, W8, W9, W11: field limits, which are 0, 1, the largest but one and the largest,
+ * each field in turn, the others drawn. */
 static void put_read_limits(struct vectors *vectors, struct setting setting, const char *pattern)
 {
     for (const char *letter = "CSMJ"; *letter != '\0'; letter++) {
@@ -81,7 +82,7 @@ static void put_read_limits(struct vectors *vectors, struct setting setting, con
     put_read(vectors, setting, ~pattern_bits(pattern, '0'), UINT32_MAX);
 }
 
-/* Each reserved neighbour: the form's fixed bits turned over, one at a time. */
+/* W10, W12: each reserved neighbour, of which the form's fixed bits are turned over, one at a time. */
 static void put_read_neighbours(struct vectors *vectors, struct setting setting, const char *pattern)
 {
     uint32_t fixed = pattern_bits(pattern, '0') | pattern_bits(pattern, '1');
@@ -94,7 +95,7 @@ static void put_read_neighbours(struct vectors *vectors, struct setting setting,
     }
 }
 
-/* "the low 24 bits of the next word are the count, the upper 8 are ignored" */
+/* W5, W14: counts at their limits, with bits above them. */
 static void put_read_next(struct vectors *vectors, struct setting setting)
 {
     static const uint32_t nexts[] = {0,          1,          0x00fffffe, 0x00ffffff, 0x01000000,
@@ -104,7 +105,8 @@ static void put_read_next(struct vectors *vectors, struct setting setting)
         put_read(vectors, setting, draw_form(&vectors->draw, patterns[READING_LONG - 1]), nexts[i]);
 }
 
-/* The words of the paper's Numbers and the misreading to catch, whatever the setting. */
+/* W10, W11, W12, W13: the rule book's words to try, whatever the setting. The last is a jump, though its
+ * upper half is that of an SLI conditional. */
 static void put_read_numbers(struct vectors *vectors, struct setting setting)
 {
     static const uint32_t words[] = {0x00000000, 0x00082180, 0x400cfffc, 0x00010050, 0x00020000, 0x00034100,
@@ -114,6 +116,7 @@ static void put_read_numbers(struct vectors *vectors, struct setting setting)
         put_read(vectors, setting, words[i], 3);
 }
 
+/* R22, W13: words at every setting, refused ones too. */
 static void put_reads(struct vectors *vectors)
 {
     for (unsigned i = 0; i < SETTINGS; i++) {
@@ -156,7 +159,7 @@ static void put_read_at(struct vectors *vectors, struct setting setting, uint32_
     put_record(vectors, READ_AT, record, sizeof record / sizeof record[0], read.number);
 }
 
-/* Places near 0, near the end and far past it. Below two words "near the end" wraps to far past. */
+/* W16: places near 0, near the end and far past it. Below two words those near the end wrap to far past. */
 static void put_read_at_places(struct vectors *vectors, struct setting setting, uint32_t lent)
 {
     uint64_t end = lent;
@@ -168,6 +171,7 @@ static void put_read_at_places(struct vectors *vectors, struct setting setting, 
         put_read_at(vectors, setting, lent, places[i]);
 }
 
+/* R8, R23, W13, W16: words at places, with SIZE at every setting, and lengths around the largest. */
 static void put_read_ats(struct vectors *vectors)
 {
     static const uint32_t lents[] = {0, 1, 2, 3, 4, 5, 1000, SIZE_LIMIT - 1, SIZE_LIMIT, SIZE_LIMIT + 1};
@@ -203,12 +207,14 @@ static void put_write(struct vectors *vectors, struct setting setting, struct re
     put_record(vectors, WRITE, words, sizeof words / sizeof words[0], written.refusal);
 }
 
-/* A field of a command: multiples of the step below the limit fit. A limit of 0 says that there is none. */
+/* A field of a command, which takes multiples of the step below the limit. A limit of 0 says that there is
+ * none. */
 struct field {
     uint64_t limit;
     uint32_t step;
 };
 
+/* X4: the fields of each form. */
 static const struct field fields[PATTERNS][3] = {
     {{0x800, 1}, {8, 1}, {0x2000, 4}},        /* increasing: count, subchannel, method */
     {{0x800, 1}, {8, 1}, {0x2000, 4}},        /* non-increasing */
@@ -257,7 +263,7 @@ static size_t field_numbers(struct field field, uint32_t numbers[12])
     return count;
 }
 
-/* Each field of a command at its limits, the others drawn; any room. */
+/* R10, X4: each field of a command at its limits, the others drawn; any room. */
 static void put_write_limits(struct vectors *vectors, struct setting setting, uint32_t number)
 {
     for (unsigned i = 0; i < 3; i++) {
@@ -274,7 +280,7 @@ static void put_write_limits(struct vectors *vectors, struct setting setting, ui
     }
 }
 
-/* A command with every field too wide: FIELD, unless the setting is refused. */
+/* R10, R24: a command with every field too wide, which is FIELD unless the setting is refused. */
 static struct reading wide_command(uint32_t number)
 {
     struct reading command = {number, {0, 0, 0}};
@@ -285,7 +291,7 @@ static struct reading wide_command(uint32_t number)
     return command;
 }
 
-/* What is no command: reserved, and the refusals that reading can give. */
+/* R12, X5: what is no command, reserved words and the refusals that reading can give. */
 static void put_write_others(struct vectors *vectors, struct setting setting)
 {
     static const uint32_t refusals[] = {REFUSAL_LEVEL, REFUSAL_MODE, REFUSAL_SLI, REFUSAL_SIZE};
@@ -296,7 +302,8 @@ static void put_write_others(struct vectors *vectors, struct setting setting)
     put_write(vectors, setting, (struct reading){READING_REFUSED, {refusal, 0, 0}}, room);
 }
 
-/* Each command that fits with every room, and the limits once more, with other numbers beside them. */
+/* R11, R12, R31, X1, X2: each command that fits with every room, and the limits once more, with other numbers
+ * beside them. */
 static void put_writes_accepted(struct vectors *vectors, struct setting setting)
 {
     for (uint32_t number = 1; number <= PATTERNS; number++) {
@@ -306,6 +313,7 @@ static void put_writes_accepted(struct vectors *vectors, struct setting setting)
     }
 }
 
+/* R24, X1, X4: commands at every setting. */
 static void put_writes(struct vectors *vectors)
 {
     for (unsigned i = 0; i < SETTINGS; i++) {
@@ -333,7 +341,7 @@ static void put_present(struct vectors *vectors, uint32_t level, uint32_t number
     put_record(vectors, PRESENT, words, sizeof words / sizeof words[0], present);
 }
 
-/* Every number up to 0x110, so that those which are byte numbers of special methods are among them; then
+/* W18: every number up to 0x110, so that those which are byte numbers of special methods are among them; then
  * larger ones, from 2^30 on such whose byte number has more than 32 bits: cut to 32, it would be that of a
  * special method, or of one that no level has. */
 static void put_presents(struct vectors *vectors)

@@ -1,4 +1,4 @@
--- What a step does where each of the paper's sentences applies. Assumes nothing.
+-- What a step does where each of the sentences applies. Assumes nothing.
 use Prim.Native.Nat.{ℕ}
 use mathlib.Core.Path.{_≡_, refl, sym, ap, _∙_}
 use mathlib.Core.Bool.{true, false, not, or-true, false≢true}

@@ -102,7 +102,7 @@ no : {b : Bool} (n : ℕ) → (n ≡ DUPLICATE → ⊥) → b ≡ true → No (s
 no n h b e = let z : n ≡ 6 = cc in h z
 
 module _ (level mode order : ℕ) (sli : Bool) (mask : ℕ) (t : List ℕ) where
-  -- "Opening: 1, 2, 3, 4, 10 (SLI mask above 4,095), 5, 6"
+  -- R25
   abbrev pub seven : List Case
   seven = openCases level mode order sli mask t ++ (DUPLICATE when twice t ∷ [])
 

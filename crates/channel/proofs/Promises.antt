@@ -240,7 +240,7 @@ module _ (c : Channel) (l : Loan) (exit : List ℕ) (r : Stepped) (h : StepsTo c
   retried-is : c .puller .acquire .active ≡ true → Leaves c (c .pusher) (retried .puller) (values (retried .event)) r × (exit ≡ l .puller .semaphores)
   retried-is a = says .retry c l exit retried r h k run a refl
 
-  -- "Any puller error stops the channel; ... no semaphore word changes."
+  -- P20, P21
   module _ (fails : puller-record.number (r .channel .puller .error) ≡ 0 → ⊥) where
     abbrev pushed : Pushed
     pushed = pushOf (c .setup) (c .pusher) (l .pusher)

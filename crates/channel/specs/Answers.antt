@@ -1,5 +1,4 @@
--- The paper's numbers of the answers that are enums: the refusal's, and none where nothing is refused; and what else an answer
--- says.
+-- The numbers of the answers that are enums: the refusal's, and none where nothing is refused; and what else an answer says.
 use Prim.Native.Nat.{ℕ}
 use mathlib.Core.List.{List, [], _∷_}
 use mathlib.Core.Option.{Option, none, some}
@@ -18,7 +17,7 @@ unfoldable pub stepRefusal : Answer → Option ℕ
 stepRefusal (answer.Event e) = none
 stepRefusal (answer.Refused r) = some (r .number)
 
--- "for 6, the lowest entry that repeats an earlier one"
+-- of a handle that stands twice, the entry
 unfoldable pub openingValues : Opening → List ℕ
 openingValues opening.Open = []
 openingValues (opening.Refused r) = []

@@ -5,8 +5,8 @@ use Rattle.word.specs.First.{choose}
 use Rattle.channel.specs.Stepping.{isStopped}
 use Rattle.channel.specs.declared.record.Channel.{Channel}
 
--- "5. Idle", where none of 1 to 4 applies: neither half is stopped, no acquire is active, the read address is put, and in IB
--- mode ib_get is ib_put. Then, and only then, a step that is not refused is idle (`Idle`).
+-- S8: neither half is stopped, no acquire is active, the read address is put, and in IB mode ib_get is ib_put. Then, and only then,
+-- a step that is not refused is idle (`Idle`).
 unfoldable pub idles : Channel → Bool
 idles c =
     not (isStopped (c .pusher) (c .puller))

@@ -20,11 +20,11 @@ use Rattle.channel.specs.declared.opening.Opening.{Opening}
 use Rattle.channel.specs.declared.opening.Opening.the-variants.{Open, Refused, Duplicate}
 use Rattle.channel.specs.declared.opening.Opened.{Opened}
 
--- TABLE: "object table not a multiple of 4 words, or over 4,096 words"
+-- R5: entries of four words, at most 1,024 of them
 abbrev pub tableRefused : ℕ → Bool
 tableRefused words = not (eqb (words % 4) 0) || ltb 4096 words
 
--- "Opening: 1, 2, 3, 4, 10 (SLI mask above 4,095), 5", and last 6
+-- R25, R10: the order of opening, but for its last, which has a case of its own
 abbrev pub openCases : ℕ → ℕ → ℕ → Bool → ℕ → List ℕ → List Case
 openCases level mode order sli mask table =
     LEVEL when levelRefused level
@@ -35,15 +35,16 @@ openCases level mode order sli mask table =
     ∷ TABLE when tableRefused (length table)
     ∷ []
 
--- DUPLICATE, "one handle in two entries": "for 6, the lowest entry that repeats an earlier one"
+-- R6: the last, with the entry whose handle stood before
 unfoldable pub duplicateOr : Repeat → Opening
 duplicateOr repeat.Nothing = Open
 duplicateOr (repeat.Entry i) = Duplicate i
 
+-- R25: what opening answers
 unfoldable pub openingOf : ℕ → ℕ → ℕ → Bool → ℕ → List ℕ → Opening
 openingOf level mode order sli mask table = refusedOr Refused (first (openCases level mode order sli mask table)) (duplicateOr (repeatOf table))
 
--- a channel that has every address, count and binding 0, and no subroutine
+-- S1: the halves of a channel at rest
 abbrev pub pusherAt : ℕ → Bool → Pusher
 pusherAt mask active =
     record {
@@ -75,19 +76,19 @@ abbrev pub setupWith : ℕ → ℕ → Bool → ℕ → ℕ → Setup
 setupWith level mode sli order limit =
     record { setting = record { level = record { number = level }; mode = record { number = mode }; sli = sli }; order = order; limit = limit }
 
--- "In NV04-style ib_order is held as 0"
+-- S1: the ib_order that a channel holds
 unfoldable pub heldOrder : ℕ → ℕ → ℕ
 heldOrder mode order = choose (eqb mode 1) order 0
 
--- "A fresh channel has every address, count and binding 0, no subroutine, and sli_active set."
+-- S1: the fresh channel
 abbrev pub freshChannel : ℕ → ℕ → ℕ → Bool → ℕ → ℕ → Channel
 freshChannel level mode order sli mask limit = restingAt (setupWith level mode sli (heldOrder mode order) limit) mask true
 
--- "the blank channel (level 0, NV04-style, all else 0)"
+-- R30: the blank channel
 abbrev pub blankChannel : Channel
 blankChannel = restingAt (setupWith 0 0 false 0 0) 0 false
 
--- "A refused opening yields the blank channel"
+-- R30, S1: which of the two an answer has beside it
 unfoldable pub opened : Opening → Channel → Opened
 opened Open c = record { answer = Open; channel = c }
 opened (Refused n) c = record { answer = Refused n; channel = blankChannel }

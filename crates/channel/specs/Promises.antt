@@ -36,25 +36,26 @@ use Rattle.channel.specs.declared.opening.Opened.{Opened}
 use Rattle.channel.specs.declared.putting.Put.{Put}
 use Rattle.channel.specs.declared.stepping.Stepped.{Stepped}
 
--- What a well-formed channel is, in plain terms: what is asked of the halves stands with them (specs/Widths.antt of each).
+-- R13, R32 to R35: what a well-formed channel is, in plain terms: what is asked of the halves stands with them (specs/Widths.antt of
+-- each).
 pub record WellFormed (c : Channel) : Type 0 where
   pub setup : SetUp (c .setup)
   pub pusher : PusherFits (c .setup) (c .pusher)
   pub puller : PullerFits (c .puller)
 
--- The conditions of the refusals, in plain terms, with their numbers in the paper's table.
+-- The conditions of the refusals, in plain terms, each with its number (docs/CARD.md, R).
 
--- TABLE: "object table not a multiple of 4 words, or over 4,096 words"
+-- R5: a table that has no whole entries, or too many
 abbrev pub BadTable : List ℕ → Type 0
 BadTable t = (length t % 4 ≡ 0 → ⊥) ⊎ (4096 < length t)
 
--- DUPLICATE: "one handle in two entries"
+-- R6: a handle that stands twice
 pub record Twice (t : List ℕ) : Type 0 where
   pub later : ℕ
   pub whole : puller.Whole t later
   pub repeated : puller.Repeated t later
 
--- "Opening: 1, 2, 3, 4, 10 (SLI mask above 4,095), 5, 6": LEVEL, MODE, ORDER, SLI, FIELD, TABLE, DUPLICATE
+-- R25: the order of opening. R1, R2, R3, R4, R10, R5, R6
 abbrev pub openPlain : ℕ → ℕ → ℕ → Bool → ℕ → List ℕ → List PlainCase
 openPlain level mode order sli mask table =
     1 if (5 < level)
@@ -66,14 +67,14 @@ openPlain level mode order sli mask table =
     ∷ 6 if Twice table
     ∷ []
 
--- "Setting put: 13, 7": STATE; PUT, "NV04-style: not a multiple of 4. IB: not below 2^ib_order"
+-- R26: the order of setting put. R13, R7
 abbrev pub putPlain : Channel → ℕ → List PlainCase
 putPlain c n =
     13 if (WellFormed c → ⊥)
     ∷ 7 if (((c .setup .setting .mode .number ≡ 1 → ⊥) × (n % 4 ≡ 0 → ⊥)) ⊎ ((c .setup .setting .mode .number ≡ 1) × (2 ^ c .setup .order ≤ n)))
     ∷ []
 
--- "Step: 13, 8, 5": STATE; SIZE, "pushbuffer or semaphore memory over 1,048,576 words"; TABLE
+-- R27: the order of a step. R13, R8, R5
 abbrev pub stepPlain : Channel → Loan → List PlainCase
 stepPlain c l =
     13 if (WellFormed c → ⊥)
@@ -81,8 +82,7 @@ stepPlain c l =
     ∷ 5 if BadTable (l .puller .table)
     ∷ []
 
--- "A fresh channel has every address, count and binding 0, no subroutine, and sli_active set", and no error; "the blank channel"
--- has all that but the last.
+-- S1, R30: what fresh and blank channels have in common, field by field.
 pub record AtRest (c : Channel) : Type 0 where
   pub get : c .pusher .get ≡ 0
   pub put : c .pusher .put ≡ 0
@@ -98,19 +98,20 @@ pub record AtRest (c : Channel) : Type 0 where
   pub acquire : c .puller .acquire ≡ record { active = false; value = 0 }
   pub puller-error : puller-record.number (c .puller .error) ≡ 0
 
+-- S1: a fresh channel
 pub record Fresh (level mode order : ℕ) (sli : Bool) (mask limit : ℕ) (c : Channel) : Type 0 where
   pub rest : AtRest c
   pub level-is : c .setup .setting .level .number ≡ level
   pub mode-is : c .setup .setting .mode .number ≡ mode
   pub sli-is : c .setup .setting .sli ≡ sli
   pub limit-is : c .setup .limit ≡ limit
-  -- "In NV04-style ib_order is held as 0"
+  -- S1: ib_order is held in IB mode alone
   pub held : mode ≡ 0 → c .setup .order ≡ 0
   pub order-is : mode ≡ 1 → c .setup .order ≡ order
   pub mask-is : c .pusher .sli .mask ≡ mask
   pub active : c .pusher .sli .active ≡ true
 
--- "level 0, NV04-style, all else 0"
+-- R30: a blank channel
 pub record Blank (c : Channel) : Type 0 where
   pub rest : AtRest c
   pub level : c .setup .setting .level .number ≡ 0
@@ -121,34 +122,38 @@ pub record Blank (c : Channel) : Type 0 where
   pub mask : c .pusher .sli .mask ≡ 0
   pub active : c .pusher .sli .active ≡ false
 
--- Promise 1. A refusal is given exactly when the table says: an answer is refusal n if and only if n's condition holds and none
--- before it in the paper's order does.
+-- Promise 1. R21: a refusal is given exactly when the table says: an answer is refusal n if and only if n's condition holds and none
+-- before it in the function's order does.
 pub record Refused : Type 0 where
+  -- R25: opening
   pub opens :
       (level mode order : ℕ) (sli : Bool) (mask limit : ℕ) (t : List ℕ) (r : Opened)
       → Opens level mode order sli mask limit t r
       → (n : ℕ)
       → openingRefusal (r .answer) ≡ some n ↔ FirstIs (openPlain level mode order sli mask t) n
+  -- R26: setting put
   pub put : (c : Channel) (p : ℕ) (r : Put) → Puts c p r → (n : ℕ) → checkRefusal (r .answer) ≡ some n ↔ FirstIs (putPlain c p) n
+  -- R27: a step
   pub step :
       (c : Channel) (l : Loan) (exit : List ℕ) (r : Stepped)
       → StepsTo c l r exit
       → (n : ℕ)
       → stepRefusal (r .answer) ≡ some n ↔ FirstIs (stepPlain c l) n
-  -- "A refused opening yields the blank channel and, for 6, the lowest entry that repeats an earlier one."
+  -- R30: a refused opening has the blank channel beside it
   pub blank :
       (level mode order : ℕ) (sli : Bool) (mask limit : ℕ) (t : List ℕ) (r : Opened)
       → Opens level mode order sli mask limit t r
       → (n : ℕ)
       → openingRefusal (r .answer) ≡ some n
       → Blank (r .channel)
+  -- R6: and DUPLICATE the entry, the lowest whose handle stood before
   pub repeated :
       (level mode order : ℕ) (sli : Bool) (mask limit : ℕ) (t : List ℕ) (r : Opened)
       → Opens level mode order sli mask limit t r
       → openingRefusal (r .answer) ≡ some 6
       → (i : ℕ)
       → openingValues (r .answer) ≡ i ∷ [] ↔ (puller.Whole t i × puller.Repeated t i × ((j : ℕ) → j < i → puller.Repeated t j → ⊥))
-  -- "Other refusals hand the channel back unchanged. No refusal writes lent memory."
+  -- R31: the others leave the channel, and the memory
   pub put-unchanged : (c : Channel) (p : ℕ) (r : Put) → Puts c p r → (n : ℕ) → checkRefusal (r .answer) ≡ some n → r .channel ≡ c
   pub step-unchanged :
       (c : Channel) (l : Loan) (exit : List ℕ) (r : Stepped)
@@ -163,7 +168,7 @@ pub record Halves (c : Channel) (p : Pusher) (q : Puller) (d : Channel) : Type 0
   pub pusher : d .pusher ≡ p
   pub puller : d .puller ≡ q
 
--- What is not refused: the fresh channel, and the channel with its put.
+-- What is not refused: S1, the fresh channel; S2, the channel with its put.
 pub record Accepted : Type 0 where
   -- what is said of a channel at rest leaves out its set-up and its SLI numbers alone: given these, there is one
   pub rest-is-one : (a b : Channel) → AtRest a → AtRest b → a .setup ≡ b .setup → a .pusher .sli ≡ b .pusher .sli → a ≡ b
@@ -172,7 +177,7 @@ pub record Accepted : Type 0 where
       → Opens level mode order sli mask limit t r
       → openingRefusal (r .answer) ≡ none
       → (openingValues (r .answer) ≡ []) × Fresh level mode order sli mask limit (r .channel)
-  -- in NV04-style put, in IB mode ib_put; "Put may be set on a stopped channel; it stays stopped."
+  -- S2: in NV04-style put, in IB mode ib_put, and nothing else: an error too stays
   pub put :
       (c : Channel) (p : ℕ) (r : Put)
       → Puts c p r
@@ -246,22 +251,22 @@ pub record Leaves (c : Channel) (p : Pusher) (q : Puller) (said : List ℕ) (r :
   pub channel : Halves c p q (r .channel)
   pub says : answerValues (r .answer) ≡ said
 
--- The sentences, of any relation R between what a step is given and what it leaves.
+-- S3: the rules as sentences, of any relation R between what a step is given and what it leaves.
 pub record Sentences (R : Channel → Loan → Stepped → List ℕ → Type 0) : Type 0 where
-  -- a refusal, by the table
+  -- R27, R31: a refusal, by the table
   pub refused :
       (c : Channel) (l : Loan) (exit : List ℕ) (n : ℕ) (r : Stepped)
       → R c l r exit
       → FirstIs (stepPlain c l) n
       → (stepRefusal (r .answer) ≡ some n) × (r .channel ≡ c) × (exit ≡ l .puller .semaphores)
-  -- "1. Stopped by an error: answers stopped, nothing changes."
+  -- S4: stopped, and nothing changes
   pub stopped :
       (c : Channel) (l : Loan) (exit : List ℕ) (r : Stepped)
       → R c l r exit
       → Takable c l
       → (Running c → ⊥)
       → Leaves c (c .pusher) (c .puller) (event.number kind.Stopped ∷ []) r × (exit ≡ l .puller .semaphores)
-  -- "2. Acquire active: reads the semaphore again." The pusher stays; what the puller does is `Retrying`.
+  -- S5: the pusher stays; what the puller does is `Retrying`
   pub retry :
       (c : Channel) (l : Loan) (exit : List ℕ) (taken : Taken) (r : Stepped)
       → R c l r exit
@@ -270,8 +275,7 @@ pub record Sentences (R : Channel → Loan → Stepped → List ℕ → Type 0) 
       → c .puller .acquire .active ≡ true
       → Retries (c .setup .setting .level) (c .puller) (l .puller .semaphores) taken
       → Leaves c (c .pusher) (taken .puller) (event.values (taken .event)) r × (exit ≡ l .puller .semaphores)
-  -- "3. Read address unequal to put: reads one word. 4. IB mode, ib_get unequal to ib_put: reads one entry. 5. Idle." is `Pushes`;
-  -- what the pusher says by itself leaves the puller and the memory
+  -- S6, S7, S8: what the move is, `Pushes` says; what the pusher says by itself leaves the puller and the memory
   pub move :
       (c : Channel) (l : Loan) (exit said : List ℕ) (x : Pushed) (r : Stepped)
       → R c l r exit
@@ -279,7 +283,7 @@ pub record Sentences (R : Channel → Loan → Stepped → List ℕ → Type 0) 
       → MakesMove c (l .pusher) x
       → Tells (x .did) 1 said
       → Leaves c (x .pusher) (c .puller) said r × (exit ≡ l .puller .semaphores)
-  -- "else the puller takes it in the same step", which is `Pulls`
+  -- S24: the puller takes what is submitted in the same step; how, `Pulls` says
   pub submit :
       (c : Channel) (l : Loan) (exit after : List ℕ) (x : Pushed) (m : Method) (taken : Taken) (r : Stepped)
       → R c l r exit
@@ -289,24 +293,24 @@ pub record Sentences (R : Channel → Loan → Stepped → List ℕ → Type 0) 
       → Takes (c .setup .setting .level) (c .puller) m (l .puller) taken after
       → Leaves c (x .pusher) (taken .puller) (event.values (taken .event)) r × (exit ≡ after)
 
--- the step says error alone; the set-up stays, and "no semaphore word changes"
+-- S27, P20: the step says error alone; the set-up and the semaphore words stay
 pub record Raises (c : Channel) (l : Loan) (r : Stepped) (exit : List ℕ) : Type 0 where
   pub says : answerValues (r .answer) ≡ event.number kind.Error ∷ []
   pub setup : r .channel .setup ≡ c .setup
   pub memory : exit ≡ l .puller .semaphores
 
--- so it does, and leaves the pusher q stopped by the error n; the puller stays
+-- S27: so it does, and leaves the pusher q stopped by the error n; the puller stays
 pub record PusherFails (c : Channel) (l : Loan) (q : Pusher) (n : ℕ) (r : Stepped) (exit : List ℕ) : Type 0 where
   pub raises : Raises c l r exit
   pub pusher : pusher.Failed q n (r .channel .pusher)
   pub puller : r .channel .puller ≡ c .puller
 
--- p is the pusher of c after its part of a step: its move's, or, of a retry, the one that it was
+-- P21: p is the pusher of c after its part of a step: its move's, or, of a retry, the one that it was
 pub record KeepsAdvance (c : Channel) (l : Loan) (p : Pusher) : Type 0 where
   pub move : (x : Pushed) → MakesMove c (l .pusher) x → p ≡ x .pusher
   pub retry : c .puller .acquire .active ≡ true → p ≡ c .pusher
 
--- q is the puller of c that its part of a step has stopped: a method that the pusher's move submits, or a retry
+-- P21: q is the puller of c that its part of a step has stopped: a method that the pusher's move submits, or a retry
 pub record PullerFails (c : Channel) (l : Loan) (q : Puller) : Type 0 where
   pub take : (x : Pushed) (m : Method) → MakesMove c (l .pusher) x → Tells (x .did) 2 (methodValues m) → puller.StoppedBy (c .puller) m q
   pub retry : c .puller .acquire .active ≡ true → puller.Failed (c .puller) (q .error) q
@@ -318,7 +322,7 @@ pub record Steps : Type 0 where
   pub pulls : puller.Pulls
   pub retrying : puller.Retrying
   pub looks : puller.Looks
-  -- "Errors 1 to 4 leave the read address past the word, dma_mget following it by the rule below, all else as before."
+  -- S28: errors 1 to 4 leave the advance
   pub word-error :
       (c : Channel) (l : Loan) (exit : List ℕ) (q : Pusher) (r : Stepped)
       → StepsTo c l r exit
@@ -328,7 +332,7 @@ pub record Steps : Type 0 where
       → pusher-record.number (r .channel .pusher .error) ≤ 4
       → pusher.Past (c .setup) (c .pusher) q
       → PusherFails c l q (pusher-record.number (r .channel .pusher .error)) r exit
-  -- "Size 0: error IB after that rise, nothing else changes."
+  -- S28, E4: error 5 leaves the risen ib_get
   pub entry-error :
       (c : Channel) (l : Loan) (exit : List ℕ) (i : ℕ) (r : Stepped)
       → StepsTo c l r exit
@@ -337,7 +341,7 @@ pub record Steps : Type 0 where
       → pusher-record.number (r .channel .pusher .error) ≡ 5
       → pusher.IndexRises (c .setup) (c .pusher) i
       → PusherFails c l (pusher-record.withIb (c .pusher) i (c .pusher .ib .put)) 5 r exit
-  -- PROTECTION: "g stays", and "ib_get stays"
+  -- S28: error 6 leaves nothing
   pub protection-error :
       (c : Channel) (l : Loan) (exit : List ℕ) (r : Stepped)
       → StepsTo c l r exit
@@ -345,8 +349,7 @@ pub record Steps : Type 0 where
       → Running c
       → pusher-record.number (r .channel .pusher .error) ≡ 6
       → PusherFails c l (c .pusher) 6 r exit
-  -- "Any puller error stops the channel; the pusher keeps the advance of that step, count and method too (a retry has none and
-  -- stays active); no semaphore word changes."
+  -- P20, P21: an error of the puller, and what it leaves
   pub puller-error :
       (c : Channel) (l : Loan) (exit : List ℕ) (r : Stepped)
       → StepsTo c l r exit
@@ -354,6 +357,7 @@ pub record Steps : Type 0 where
       → Running c
       → (puller-record.number (r .channel .puller .error) ≡ 0 → ⊥)
       → Raises c l r exit × KeepsAdvance c l (r .channel .pusher) × PullerFails c l (r .channel .puller)
+  -- P14, P16, P21: a retry that finds no word
   pub retry-past-end :
       (c : Channel) (l : Loan) (exit : List ℕ) (e : PullerError) (r : Stepped)
       → StepsTo c l r exit
@@ -372,7 +376,7 @@ NoOther =
     → R c l r exit
     → StepsTo c l r exit
 
--- A step is at most one move of the pusher: the puller leaves the pusher's record, and nothing changes the set-up.
+-- S32, S3: a step is at most one move of the pusher: the puller leaves the pusher's record, and nothing changes the set-up.
 abbrev pub AtMostOneMove : Type 0
 AtMostOneMove =
     (c : Channel) (l : Loan) (exit : List ℕ) (r : Stepped)
@@ -380,7 +384,7 @@ AtMostOneMove =
     → (r .channel .setup ≡ c .setup)
     × ((r .channel .pusher ≡ c .pusher) ⊎ ((x : Pushed) × MakesMove c (l .pusher) x × (r .channel .pusher ≡ x .pusher)))
 
--- What 'read as' is by event. Of a step that is not refused:
+-- S32: what 'read as' is by event. Of a step that is not refused:
 pub record ReadAs : Type 0 where
   -- one that reads a command says command, or raises an error of the pusher;
   pub command :
@@ -409,13 +413,14 @@ pub record ReadAs : Type 0 where
       → answerValues (r .answer) ≡ k ∷ b ∷ m ∷ n ∷ []
       → ReadsParameter c (l .pusher)
 
--- "5. Idle", where none of 1 to 4 applies
+-- S8: what is left where nothing before it applies
 pub record Resting (c : Channel) : Type 0 where
   pub running : Running c
   pub no-acquire : c .puller .acquire .active ≡ false
   pub equal : c .pusher .get ≡ c .pusher .put
   pub no-entry : (c .setup .setting .mode .number ≡ 1 → ⊥) ⊎ (c .pusher .ib .get ≡ c .pusher .ib .put)
 
+-- S8: told without a step
 pub record Idle : Type 0 where
   -- `idle` says so of every channel, one that is refused too;
   pub rests : (c : Channel) (a : Bool) → Idles c a → a ≡ true ↔ Resting c
@@ -444,8 +449,9 @@ pub data Later (c : Channel) : Channel → Type 0 where
       → e ≡ r .channel
       → Later c e
 
+-- S31: what is opened stays well-formed
 pub record Kept : Type 0 where
-  -- the answer is not 13 exactly if the channel is well-formed
+  -- R13: the answer is not 13 exactly if the channel is well-formed
   pub put-state : (c : Channel) (n : ℕ) (r : Put) → Puts c n r → (checkRefusal (r .answer) ≡ some 13 → ⊥) ↔ WellFormed c
   pub step-state :
       (c : Channel) (l : Loan) (exit : List ℕ) (r : Stepped)

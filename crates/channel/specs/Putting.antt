@@ -13,21 +13,21 @@ use Rattle.channel.specs.State.{wellFormed}
 use Rattle.channel.specs.declared.record.Channel.{Channel}
 use Rattle.channel.specs.declared.putting.Put.{Put}
 
--- PUT: "NV04-style: not a multiple of 4. IB: not below 2^ib_order"
+-- R7: where put may not be
 unfoldable pub putRefused : Channel → ℕ → Bool
 putRefused c n = choose (eqb (c .setup .setting .mode .number) 1) (leb (2 ^ c .setup .order) n) (not (eqb (n % 4) 0))
 
--- "Setting put: 13, 7"
+-- R26: the order of setting put
 abbrev pub putCases : Channel → ℕ → List Case
 putCases c n = STATE when not (wellFormed c) ∷ PUT when putRefused c n ∷ []
 
--- in IB mode put is ib_put; "Put may be set on a stopped channel; it stays stopped"
+-- S2: put, or ib_put, and nothing else
 unfoldable pub withPut : Channel → ℕ → Channel
 withPut c n =
     choose (eqb (c .setup .setting .mode .number) 1) (withPusher c (pusher.withIb (c .pusher) (c .pusher .ib .get) n))
     (withPusher c (pusher.withPut (c .pusher) n))
 
--- "Other refusals hand the channel back unchanged."
+-- R31: a refusal leaves the channel
 abbrev pub unchanged : Channel → Refusal → Put
 unchanged c n = record { answer = check.Refused n; channel = c }
 

@@ -1,5 +1,4 @@
--- STATE: "channel with a field outside its width, a read, put or return address not a multiple of 4, or a combination that 1
--- to 4 refuse".
+-- When a channel's record is well-formed, and so not refused as STATE.
 use Prim.Native.Nat.{ℕ, _%_, _^_}
 use mathlib.Core.Bool.{Bool, true, not, _&&_, _||_}
 use mathlib.Core.List.{List, [], _∷_, _++_}
@@ -13,11 +12,11 @@ use Rattle.pusher.specs.declared.record.Setup.{Setup}
 use Rattle.pusher.specs.declared.record.Pusher.{Pusher}
 use Rattle.channel.specs.declared.record.Channel.{Channel}
 
--- ORDER: "IB mode and ib_order above 12"
+-- R3: the ring of IB entries has at most 2^12
 abbrev pub orderRefused : ℕ → ℕ → Bool
 orderRefused mode order = eqb mode 1 && ltb 12 order
 
--- "a combination that 1 to 4 refuse"; "In NV04-style ib_order is held as 0, else 13"
+-- R34: a set-up that opening could have made
 unfoldable pub setupFits : Setup → Bool
 setupFits s =
     not (levelRefused (s .setting .level .number))
@@ -39,10 +38,11 @@ unfoldable pub within : List Width → Bool
 within [] = true
 within (w ∷ ws) = ltb (w .value) (2 ^ w .bits) && within ws
 
--- "read, put and dma_mget 32 bits in NV04-style, 40 in IB; ib_get and ib_put below 2^ib_order"
+-- R32: how wide an address is, by the mode
 unfoldable pub addressBits : Setup → ℕ
 addressBits s = choose (eqb (s .setting .mode .number) 1) 40 32
 
+-- R32: the addresses, and the indices into the ring
 abbrev pub addressWidths : Setup → Pusher → List Width
 addressWidths s p =
     p .get in-bits addressBits s
@@ -52,11 +52,11 @@ addressWidths s p =
     ∷ p .ib .put in-bits s .order
     ∷ []
 
--- "count 24 bits, SLI mask 12, method number 11", "subchannel 3"
+-- R32: the run under way, and the SLI mask
 abbrev pub runWidths : Pusher → List Width
 runWidths p = p .run .count in-bits 24 ∷ p .sli .mask in-bits 12 ∷ p .run .method in-bits 11 ∷ p .run .subchannel in-bits 3 ∷ []
 
--- "engine 5", of the last engine and of each of the eight that are bound
+-- R32: the last engine, and each of the eight that are bound
 abbrev pub engineWidths : Puller → List Width
 engineWidths p = p .last in-bits 5 ∷ []
 
@@ -66,7 +66,7 @@ engineTooWide p subchannel = leb (2 ^ 5) (engineOf p subchannel)
 unfoldable pub enginesFit : Puller → Bool
 enginesFit p = not (found? (lowest (engineTooWide p) 8))
 
--- "all other numbers 32"
+-- R32: the numbers of 32 bits
 abbrev pub otherWidths : Channel → List Width
 otherWidths c =
     c .setup .limit in-bits 32
@@ -80,7 +80,7 @@ otherWidths c =
 abbrev pub widths : Channel → List Width
 widths c = addressWidths (c .setup) (c .pusher) ++ (runWidths (c .pusher) ++ (engineWidths (c .puller) ++ otherWidths c))
 
--- "a read, put or return address not a multiple of 4"
+-- R33: the addresses that are multiples of 4
 abbrev pub addresses : Pusher → List ℕ
 addresses p = p .get ∷ p .put ∷ p .subroutine .back ∷ []
 
@@ -88,5 +88,6 @@ unfoldable pub aligned : List ℕ → Bool
 aligned [] = true
 aligned (a ∷ more) = eqb (a % 4) 0 && aligned more
 
+-- R13, R35: all of these, and nothing else
 unfoldable pub wellFormed : Channel → Bool
 wellFormed c = setupFits (c .setup) && (within (widths c) && (aligned (addresses (c .pusher)) && enginesFit (c .puller)))

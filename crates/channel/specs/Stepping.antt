@@ -1,5 +1,4 @@
--- The paper's 'One step of the channel': "A step does the first of these that applies." What a step does, it does to the
--- halves; the channel is put together again from them.
+-- One step of the channel (docs/CARD.md, S). What a step does, it does to the halves; the channel is put together again from them.
 use Prim.Native.Nat.{ℕ}
 use mathlib.Core.Bool.{Bool, not, _||_}
 use mathlib.Core.List.{List, [], _∷_}
@@ -42,32 +41,34 @@ pub record Effect : Type 0 where
   pub acted : Acted
   pub memory : List ℕ
 
--- "1. Stopped by an error", of either half
+-- S4: an error of either half has stopped the channel
 unfoldable pub isStopped : Pusher → Puller → Bool
 isStopped p q = pusher.halts (p .error) || puller.halts (q .error)
 
--- What a step is about to do: 1, 2, and the pusher's move, which is 3, 4 or 5 (pusher/specs/Moving.antt).
+-- S3: what a step is about to do: nothing more, a retry, or the pusher's move, which tells S6, S7 and S8 apart
+-- (pusher/specs/Moving.antt).
 pub data Role : Type 0 where
   halted retries moves : Role
 
+-- S3, S4, S5: the first that applies
 unfoldable pub role : Pusher → Puller → Role
 role p q = choose (isStopped p q) halted (choose (q .acquire .active) retries moves)
 
 abbrev pub saying : Event → Pusher → Puller → Acted
 saying e p q = record { event = e; pusher = p; puller = q }
 
--- "2. Acquire active: reads the semaphore again": the pusher stays as it is
+-- S5: what the puller says, with the pusher as it is
 abbrev pub withTaken : Pusher → Taken → Acted
 withTaken p t = saying (t .event) p (t .puller)
 
 abbrev pub waited : Level → Pusher → Puller → List ℕ → Acted
 waited level p q sems = withTaken p (retryOf (level .number) q sems)
 
--- "the puller takes it in the same step"; "the pusher keeps the advance of that step, count and method too"
+-- S24, P21: the puller takes a method in the step that submits it, and whatever comes of that, the pusher keeps its move
 abbrev pub submitted : Level → Pusher → Puller → Method → PullerLoan → Effect
 submitted level p q m l = record { acted = withTaken p (takeOf (level .number) q m l .taken); memory = takeOf (level .number) q m l .memory }
 
--- what the pusher says by itself leaves the puller and the memory
+-- S3, S27: what the pusher says by itself leaves the puller and the memory
 unfoldable pub finished : Level → Pusher → Puller → Did → PullerLoan → Effect
 finished level p q (did.Event e) l = record { acted = saying e p q; memory = l .semaphores }
 finished level p q (did.Submit m) l = submitted level p q m l
@@ -75,6 +76,7 @@ finished level p q (did.Submit m) l = submitted level p q m l
 abbrev pub moved : Setup → Pusher → Puller → Loan → Effect
 moved s p q l = finished (s .setting .level) (pushOf s p (l .pusher) .pusher) q (pushOf s p (l .pusher) .did) (l .puller)
 
+-- S3: what a step does in a role; S4: where an error has stopped it, nothing
 unfoldable pub act : Setup → Pusher → Puller → Loan → Role → Effect
 act s p q l halted = record { acted = saying (Plain kind.Stopped) p q; memory = l .puller .semaphores }
 act s p q l retries = record { acted = waited (s .setting .level) p q (l .puller .semaphores); memory = l .puller .semaphores }
@@ -94,7 +96,7 @@ acting c l x = actedOn c (act (c .setup) (c .pusher) (c .puller) l x)
 abbrev pub unrefused : Channel → Loan → Outcome
 unrefused c l = acting c l (role (c .pusher) (c .puller))
 
--- "Step: 13, 8, 5"
+-- R27: the order of a step
 abbrev pub stepCases : Channel → Loan → List Case
 stepCases c l =
     STATE when not (wellFormed c)
@@ -102,12 +104,13 @@ stepCases c l =
     ∷ TABLE when tableRefused (length (l .puller .table))
     ∷ []
 
--- "Other refusals hand the channel back unchanged. No refusal writes lent memory."
+-- R31: a refusal leaves the channel, and the memory
 abbrev pub refusing : Channel → Refusal → Stepped
 refusing c n = record { answer = answer.Refused n; channel = c }
 
 abbrev pub unchanged : Channel → Loan → Refusal → Outcome
 unchanged c l n = record { stepped = refusing c n; memory = l .puller .semaphores }
 
+-- one step
 unfoldable pub stepOf : Channel → Loan → Outcome
 stepOf c l = refusedOr (unchanged c l) (first (stepCases c l)) (unrefused c l)

@@ -15,7 +15,7 @@ use word::Mode;
 use word::Refusal;
 use word::Setting;
 
-// What opening answers: open, or why not; of DUPLICATE the lowest entry that repeats an earlier one.
+// What opening answers: open, or why not; of a handle that stands twice, the lowest entry that has it again.
 pub enum Opening {
     Open,
     Refused { refusal: Refusal },
@@ -95,7 +95,7 @@ fn refused(refusal: Refusal) -> Opened
     }
 }
 
-// Level 0, NV04-style, all else 0.
+// The blank channel (R30).
 fn blank() -> Channel
     ensures { λ r. ⌜ r ≡ blankChannel ⌝ }
 {

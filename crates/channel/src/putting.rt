@@ -42,7 +42,7 @@ impl Channel {
         }
     }
 
-    // Whether PUT refuses: NV04-style not a multiple of 4, in IB mode not below 2^ib_order.
+    // Whether PUT refuses (R7): an address in NV04-style, an index into the ring in IB mode.
     fn no_put(self, put: u32) -> bool
         requires { ⌜ wellFormed self ≡ true ⌝ }
         ensures { λ r. ⌜ r ≡ putRefused self put ⌝ }

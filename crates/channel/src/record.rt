@@ -88,7 +88,7 @@ impl Channel {
         }
     }
 
-    // Whether the record is within the paper's widths, alignments and combinations; else it is
+    // Whether the record is within its widths, alignments and combinations (R32 to R35); else it is
     // refused as STATE. Numbers of 32 bits fit by their type.
     pub(crate) fn well_formed(self) -> bool
         ensures { λ r. ⌜ r ≡ wellFormed self ⌝ }

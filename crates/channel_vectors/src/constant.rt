@@ -1,5 +1,5 @@
-// The associated constants of the errors have these numbers, which for the pusher are the paper's: the check
-// proves each line.
+// The associated constants of the errors have the numbers of docs/CARD.md (S26, P23): the check proves each
+// line.
 use check::expect;
 use puller::PullerError;
 use pusher::PusherError;

@@ -1,4 +1,4 @@
--- The paper's numbers of the kinds, and what an event says as numbers.
+-- The numbers of the kinds, and what an event says as numbers.
 use Prim.Native.Nat.{ℕ}
 use mathlib.Core.List.{List, [], _∷_}
 use Rattle.event.specs.declared.Kind.{Kind}
@@ -6,8 +6,7 @@ use Rattle.event.specs.declared.Kind.the-variants as kind
 use Rattle.event.specs.declared.Event.{Event}
 use Rattle.event.specs.declared.Event.the-variants.{Plain, Of}
 
--- "`kind` is command, count, bind, ref, event, dma, offset, acquire, release, wait, forward or error, in the library also
--- entry, discard, idle and stopped": the place in that list
+-- S30: a kind's number
 unfoldable pub number : Kind → ℕ
 number kind.Command = 1
 number kind.Count = 2
@@ -26,7 +25,7 @@ number kind.Discard = 14
 number kind.Idle = 15
 number kind.Stopped = 16
 
--- "only methods taken or discarded have further fields": subchannel, method (its byte number) and parameter
+-- S29: a kind, and of a method that is taken or discarded its subchannel, byte number and parameter
 unfoldable pub values : Event → List ℕ
 values (Plain k) = number k ∷ []
 values (Of k m) = number k ∷ m .subchannel ∷ m .method ∷ m .parameter ∷ []

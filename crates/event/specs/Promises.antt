@@ -18,17 +18,17 @@ One = (k : Kind) (a b : ℕ) → Numbers k a → Numbers k b → a ≡ b
 abbrev pub StandsIn : {A : Type 0} → List (Option A) → (A → ℕ) → Type 0
 StandsIn {A = A} list numberOf = (x : A) → getD list (numberOf x) none ≡ some x
 
--- "`kind` is command, count, bind, ref, event, dma, offset, acquire, release, wait, forward or error, in the library also
--- entry, discard, idle and stopped": a kind's number is its place in that list, from 1.
+-- S30: the kinds in order, from 1; a kind's number is its place in this list.
 abbrev pub kindList : List (Option Kind)
 kindList =
     none
     ∷ map some
     (kind.Command ∷ kind.Count ∷ kind.Bind ∷ kind.Ref ∷ kind.Event ∷ kind.Dma ∷ kind.Offset ∷ kind.Acquire ∷ kind.Release ∷ kind.Wait ∷ kind.Forward ∷ kind.Error ∷ kind.Entry ∷ kind.Discard ∷ kind.Idle ∷ kind.Stopped ∷ [])
 
+-- S30: every kind stands there
 abbrev pub Kinds : Type 0
 Kinds = StandsIn kindList number
 
--- An event is told by its numbers: what a promise says of an event, it says of them.
+-- S29: an event is told by its numbers: what a promise says of an event, it says of them.
 abbrev pub Told : Type 0
 Told = (x y : Event) → values x ≡ values y → x ≡ y

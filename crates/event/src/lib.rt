@@ -1,8 +1,8 @@
-// What a step of the channel, or either half of it, can say: the paper's kinds, and the method that
+// What a step of the channel, or either half of it, can say: the kinds, and the method that
 // an event is about.
 ghost use Rattle.event.specs.Contracts.{Numbers};
 
-// The kinds of the paper's 'Program' paragraph, and the library's additional ones.
+// The kinds, in the order of their numbers.
 pub enum Kind {
     Command,
     Count,
@@ -23,7 +23,7 @@ pub enum Kind {
 }
 
 impl Kind {
-    // A kind's number: its place in the paper's list.
+    // A kind's number: its place in their list (S30).
     pub fn number(self) -> u32
         ensures { λ r. ⌜ Numbers self r ⌝ }
     {

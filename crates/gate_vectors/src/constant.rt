@@ -1,4 +1,4 @@
-// The associated constants are the paper's numbers: the check proves each line.
+// The associated constants have the numbers of docs/CARD.md: the check proves each line.
 use check::expect;
 use gate::Reason;
 

@@ -6,7 +6,7 @@ use Rattle.word.specs.Reading as reading
 use Rattle.listing.specs.declared.command.Item.{Item}
 use Rattle.listing.specs.declared.command.Item.the-variants.{Command, Past, Reserved, Short, Refused}
 
--- a command, the ends in the paper's order, and a refusal
+-- a command, the three ends, and a refusal
 unfoldable pub number : Item → ℕ
 number (Command r) = 1
 number Past = 2

@@ -13,7 +13,7 @@ use Rattle.listing.specs.declared.listing.Listing.{Listing}
 abbrev pub ListsAt : Setting → List ℕ → ℕ → Listed → Type 0
 ListsAt s ws p r = r ≡ listOf s ws p
 
--- `Listing::new`, of the lent words: the reader holds them, at place 0
+-- K1: `Listing::new`, of the lent words: the reader holds them, at place 0
 abbrev pub Begins : RefT (List ℕ) → Listing → Type 0
 Begins words r = r ≡ record { words = words; place = 0 }
 

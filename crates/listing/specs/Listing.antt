@@ -1,5 +1,4 @@
--- The listing of lent words: "gives the commands in turn. It ends, says which and stays there, past the last word, at a reserved
--- word or at a command whose words run short."
+-- The listing of lent words (docs/CARD.md, K): the commands in turn, up to an end.
 use Prim.Native.Nat.{ℕ, _+_}
 use mathlib.Core.List.{List, _++_}
 use lib.Dec.{eqb, leb, ltb}
@@ -14,22 +13,23 @@ use Rattle.listing.specs.declared.command.Item.{Item}
 use Rattle.listing.specs.declared.command.Item.the-variants as item
 use Rattle.listing.specs.declared.command.Listed.{Listed}
 
--- a command's words: those that the writer writes, "a command's first word and a long form's count word", and its parameters
+-- K2, W15: a command's words: those that the writer writes, and its parameters
 unfoldable pub span : Reading → ℕ
 span r = length (ownWords r) + parameterCount r
 
--- an end: it "stays there"
+-- K4: an end: the place stays
 abbrev pub endsAt : ℕ → Item → Listed
 endsAt p i = record { item = i; place = p }
 
--- "at a reserved word" (number 9) "or at a command whose words run short"; else the command, and the place after its words
+-- K2, K3: a reserved word (number 9) is an end, and so is a command that the words are too few for; else the command, and the place
+-- behind its words
 unfoldable pub itemOf : Reading → ℕ → ℕ → Listed
 itemOf r n p =
     choose (eqb (number r) 9) (endsAt p item.Reserved)
     (choose (ltb n (p + span r)) (endsAt p item.Short)
     (record { item = item.Command r; place = p + span r }))
 
--- "Reading a word, listing: 1, 2, 4, 8"; then "past the last word", or what the word there reads as
+-- R23, K3, K4: a refusal stays too; past the last word is an end; else what the word there reads as decides
 unfoldable pub listOf : Setting → List ℕ → ℕ → Listed
 listOf s ws p =
     refusedOr (λ n. endsAt p (item.Refused n)) (first (settingCases s ++ sizeCases (length ws)))

@@ -21,8 +21,7 @@ use Rattle.listing.specs.declared.command.Item.{Item}
 use Rattle.listing.specs.declared.command.Listed.{Listed}
 use Rattle.listing.specs.declared.listing.Listing.{Listing}
 
--- Promise 1. "Reading a word, listing: 1, 2, 4, 8": an item is refusal n if and only if n's condition holds and none before it in
--- the paper's order does.
+-- Promise 1. R21, R23: an item is refusal n if and only if n's condition holds and none before it in the order does.
 pub record Refused : Type 0 where
   pub list-at :
       (s : Setting) (ws : List ℕ) (p : ℕ) (a : Listed)
@@ -45,12 +44,11 @@ pub record One : Type 0 where
       → Gives s l b y
       → (a ≡ b) × (x ≡ y)
 
--- "a listing reader that holds the lent words and its place": a new one holds the words that it is lent, at place 0.
+-- K1: a new reader holds the words that it is lent, at place 0.
 abbrev pub New : Type 0
 New = (words : RefT (List ℕ)) (l : Listing) → Begins words l → (l .words ≡ words) × (l .place ≡ 0)
 
--- "It ends, says which and stays there": what is no command (number 1) leaves the reader as it was, a refusal too, so that `next`
--- gives the same again.
+-- K4, R31: what is no command (number 1) leaves the reader as it was, a refusal too, so that `next` gives the same again.
 abbrev pub Stays : Type 0
 Stays = (s : Setting) (l : Listing) (a : Item) (exit : Listing) → Gives s l a exit → 2 ≤ number a → exit ≡ l
 
@@ -58,9 +56,9 @@ Stays = (s : Setting) (l : Listing) (a : Item) (exit : Listing) → Gives s l a 
 abbrev pub IsCommand : Reading → Item → Type 0
 IsCommand r a = (number a ≡ 1) × (values a ≡ reading.number r ∷ reading.values r)
 
--- Which item, where nothing is refused, by the reading of the word at the place with the word after it, or 0 after the last: 2 past
--- the last word, 3 at a reserved word (a reading's number 9), 4 at a command whose words run short, else the command. A command has
--- its own words (`size`) and its parameters.
+-- K2, K3, W15: which item, where nothing is refused, by the reading of the word at the place with the word after it, or 0 after the
+-- last: 2 past the last word, 3 at a reserved word (a reading's number 9), 4 at a command whose words run short, else the command. A
+-- command has its own words (`size`) and its parameters.
 pub record Items : Type 0 where
   pub past : (s : Setting) (ws : List ℕ) (p : ℕ) (a : Listed) → ListsAt s ws p a → itemRefusal (a .item) ≡ none → number (a .item) ≡ 2 ↔ length ws ≤ p
   pub reserved :
@@ -89,7 +87,7 @@ pub record Items : Type 0 where
       → p + size r + parameterCount r ≤ length ws
       → IsCommand r (a .item) × (a .place ≡ p + size r + parameterCount r)
 
--- `next` gives what `list_at` gives of the words that the reader holds, at its place, and the reader goes on after it.
+-- K2: `next` gives what `list_at` gives of the words that the reader holds, at its place, and the reader goes on after it.
 abbrev pub Next : Type 0
 Next =
     (s : Setting) (l : Listing) (a : Item) (exit : Listing) (x : Listed)
@@ -122,5 +120,6 @@ pub data InTurn (s : Setting) (ws : List ℕ) : ℕ → List Reading → Type 0 
       → InTurn s ws (a .place) rs
       → InTurn s ws p (r ∷ rs)
 
+-- K5: so it does
 abbrev pub GivesBack : Type 0
 GivesBack = (s : Setting) (rs : List Reading) (ws : List ℕ) → (SomeHolds (settingPlain s) → ⊥) → length ws ≤ 1048576 → Made s rs ws → InTurn s ws 0 rs

@@ -9,8 +9,7 @@ use word::Refusal;
 use word::Setting;
 use word::read_at;
 
-// A command, or an end and which: past the last word, at a reserved word, at a command whose words
-// run short; or why nothing is listed.
+// A command, or an end and which (K3); or why nothing is listed.
 pub enum Item {
     Command { reading: Reading },
     Past,

@@ -1,4 +1,4 @@
-// The listing reader: it holds the lent words and its place.
+// The listing reader, thin over `list_at`: lent words, and how far they are listed.
 ghost use Rattle.listing.specs.Contracts.{Begins, Gives};
 use crate::command::Item;
 use crate::command::list_at;

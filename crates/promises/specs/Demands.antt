@@ -1,7 +1,8 @@
 -- The three demands, in the inspector's own words, which are the ones that are signed; each with the statements that say it. A
 -- statement stands in specs/ of the crate that it is about; it speaks of public functions through their contracts (that crate's
 -- specs/Contracts.antt), and that every function meets its contract at every input is what the check of its crate proves.
--- docs/PROMISES.md has each statement in plain words, and what signing does not cover.
+-- docs/PROMISES.md has each statement in plain words, the rules that each demand rests on, and what signing does not cover. 'The paper'
+-- of the inspector's words is the scope that was agreed; docs/CARD.md says all of it, rule by rule.
 use Rattle.word.specs.Numbers as numbers
 use Rattle.word.specs.Promises as word
 use Rattle.word.specs.Forms as word-forms
@@ -108,7 +109,7 @@ pub record Second : Type 1 where
   pub loaded : trace.Loaded
   pub printed : trace.Printed
   pub printed-cases : trace.Cases
-  -- the paper's 'Numbers'
+  -- words and an entry to try
   pub words : numbers.Numbers
   pub entry : pusher.EntryNumbers
 

@@ -118,7 +118,7 @@ pulls =
           (taken-as looksAndForwards k (looks-at _ v h) (object-is p m (l .table) o n ∙ forward-is p m _ some) refl);
     }
 
--- "0x10 to 0x24", or outside
+-- a method of 0x10 to 0x24, or outside
 logged-or-not : (m : ℕ) → ((0x10 ≤ m) × (m ≤ 0x24)) ⊎ (m < 0x10) ⊎ (0x24 < m)
 logged-or-not m =
     by-cases (decLt m 0x10) (λ l. inr (inl l)) (λ n. by-cases (decLt 0x24 m) (λ l. inr (inr l)) (λ o. inl (omega arith, omega arith)))

@@ -1,4 +1,4 @@
--- What the puller does where each of the paper's sentences applies. Assumes nothing.
+-- What the puller does where each of the sentences applies. Assumes nothing.
 use Prim.Native.Nat.{ℕ, _/_, _%_, _^_, _≤_, _<_}
 use mathlib.Core.Path.{_≡_, refl, sym, ap, _∙_}
 use mathlib.Core.Bool.{Bool, true, false, not, _&&_, and-false, false≢true}
@@ -111,7 +111,7 @@ module _ (p : Puller) (m : Method) (t : List ℕ) where
     unfolding forwardObjectOf
     object-is = found-is p t _ _ o n
 
--- 0x64: "any bit outside 0xffc"
+-- P11: an offset that has other bits than 11-2
 outside-is : (w : ℕ) → (w % 4 ≡ 0 → ⊥) ⊎ (w / 2 ^ 12 % 2 ^ 20 ≡ 0 → ⊥) → not (eqb (bits 1 0 w) 0 && eqb (bits 31 12 w) 0) ≡ true
 outside-is w s = ⊎-elim (λ n. rw (ne-eqb (bits 1 0 w) 0 (λ q. n (omega arith)))) (λ n. rw (ne-eqb (bits 31 12 w) 0 n, and-false)) s
 

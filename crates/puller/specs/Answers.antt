@@ -13,7 +13,7 @@ unfoldable pub flag : Bool → ℕ
 flag true = 1
 flag false = 0
 
--- "engine (bits 4-0); address; class (bits 15-0), write-only (bit 16), page table present (bit 17)"
+-- what an entry describes, in the order of its words and bits
 unfoldable pub objectValues : Object → List ℕ
 objectValues o = o .engine ∷ o .address ∷ o .class ∷ flag (o .writeonly) ∷ flag (o .paged) ∷ []
 

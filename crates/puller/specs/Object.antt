@@ -13,7 +13,7 @@ use Rattle.puller.specs.declared.object.Found.the-variants as found
 use Rattle.puller.specs.declared.object.Repeat.{Repeat}
 use Rattle.puller.specs.declared.object.Repeat.the-variants as repeat
 
--- "Object entry, four words": how many whole entries there are, and word k of entry i
+-- P1: how many whole entries there are, of four words each, and word k of entry i
 abbrev pub entries : List ℕ → ℕ
 entries t = length t / 4
 
@@ -23,7 +23,7 @@ wordOf t i k = getD t (4 * i + k) 0
 abbrev pub handle : List ℕ → ℕ → ℕ
 handle t i = getD t (4 * i) 0
 
--- "handle; engine (bits 4-0); address; class (bits 15-0), write-only (bit 16), page table present (bit 17)"
+-- P1: what an entry describes, by the bits of its words
 unfoldable pub objectAt : List ℕ → ℕ → Object
 objectAt t i =
     record {
@@ -34,7 +34,7 @@ objectAt t i =
       paged = eqb (bits 17 17 (wordOf t i 3)) 1;
     }
 
--- "Lookup takes the lowest matching entry"
+-- P2: whether an entry has a handle
 unfoldable pub has : List ℕ → ℕ → ℕ → Bool
 has t h i = eqb (handle t i) h
 
@@ -42,10 +42,11 @@ unfoldable pub foundAt : List ℕ → Option ℕ → Found
 foundAt t none = found.Nothing
 foundAt t (some i) = found.Object (objectAt t i)
 
+-- P2: the object of the lowest entry that has it
 unfoldable pub lookupOf : List ℕ → ℕ → Found
 lookupOf t h = foundAt t (lowest (has t h) (entries t))
 
--- "the lowest entry that repeats an earlier one"
+-- R6: whether an entry has the handle of an earlier one
 unfoldable pub repeats : List ℕ → ℕ → Bool
 repeats t j = found? (lowest (has t (handle t j)) j)
 
@@ -53,5 +54,6 @@ unfoldable pub repeatAt : Option ℕ → Repeat
 repeatAt none = repeat.Nothing
 repeatAt (some i) = repeat.Entry i
 
+-- R6: the lowest entry that has
 unfoldable pub repeatOf : List ℕ → Repeat
 repeatOf t = repeatAt (lowest (repeats t) (entries t))

@@ -25,15 +25,14 @@ use Rattle.puller.specs.declared.record.PullerError.the-variants as caus
 use Rattle.puller.specs.declared.record.Puller.{Puller}
 use Rattle.puller.specs.declared.taking.Taken.{Taken}
 
--- "Object entry, four words": entry i is whole, and its handle
+-- P1: entry i is whole, and its handle
 abbrev pub Whole : List ℕ → ℕ → Type 0
 Whole t i = 4 * i + 3 < length t
 
 abbrev pub handleAt : List ℕ → ℕ → ℕ
 handleAt t i = getD t (4 * i) 0
 
--- "handle; engine (bits 4-0); address; class (bits 15-0), write-only (bit 16), page table present (bit 17)": o is what entry i
--- describes
+-- P1: o is what entry i describes
 pub record Describes (t : List ℕ) (i : ℕ) (o : Object) : Type 0 where
   pub engine : o .engine ≡ getD t (4 * i + 1) 0 % 2 ^ 5
   pub address : o .address ≡ getD t (4 * i + 2) 0
@@ -41,7 +40,7 @@ pub record Describes (t : List ℕ) (i : ℕ) (o : Object) : Type 0 where
   pub writeonly : o .writeonly ≡ true ↔ (getD t (4 * i + 3) 0 / 2 ^ 16 % 2 ≡ 1)
   pub paged : o .paged ≡ true ↔ (getD t (4 * i + 3) 0 / 2 ^ 17 % 2 ≡ 1)
 
--- "Lookup takes the lowest matching entry": a handle names the object o
+-- P2: a handle names the object o, of the lowest entry that has it
 pub record Names (t : List ℕ) (handle : ℕ) (o : Object) : Type 0 where
   pub entry : ℕ
   pub whole : Whole t entry
@@ -52,7 +51,7 @@ pub record Names (t : List ℕ) (handle : ℕ) (o : Object) : Type 0 where
 abbrev pub NamesNone : List ℕ → ℕ → Type 0
 NamesNone t handle = (i : ℕ) → Whole t i → handleAt t i ≡ handle → ⊥
 
--- `lookup` says so
+-- P1, P2: `lookup` says so
 pub record Looks : Type 0 where
   pub named :
       (t : List ℕ) (handle : ℕ) (o : Object) (r : Found)
@@ -75,7 +74,7 @@ pub record Repeated (t : List ℕ) (i : ℕ) : Type 0 where
   pub before : earlier < i
   pub same : handleAt t earlier ≡ handleAt t i
 
--- "the lowest entry that repeats an earlier one"
+-- R6: the lowest that does
 pub record FirstRepeat : Type 0 where
   pub entry :
       (t : List ℕ) (i : ℕ) (r : Repeat)
@@ -83,14 +82,14 @@ pub record FirstRepeat : Type 0 where
       → ((repeatNumber r ≡ 1) × (repeatValues r ≡ i ∷ [])) ↔ (Whole t i × Repeated t i × ((j : ℕ) → j < i → Repeated t j → ⊥))
   pub nothing : (t : List ℕ) (r : Repeat) → Repeats t r → repeatNumber r ≡ 2 ↔ ((i : ℕ) → Whole t i → Repeated t i → ⊥)
 
--- "below level 4 unbound, from 4 offset not valid: SEMAPHORE 2"
+-- P13, P10: no semaphore to acquire or release, or one
 abbrev pub Unready : Level → Puller → Type 0
 Unready level p = ((level .number < 4) × (p .semaphore .dma ≡ 0)) ⊎ ((4 ≤ level .number) × (p .semaphore .valid ≡ false))
 
 abbrev pub Ready : Level → Puller → Type 0
 Ready level p = ((level .number < 4) × (p .semaphore .dma ≡ 0 → ⊥)) ⊎ ((4 ≤ level .number) × (p .semaphore .valid ≡ true))
 
--- "The word is at offset/4, rounded down": within the memory, or "Past its end: SEMAPHORE 2 below level 4, 4 from there."
+-- P14: its word is within the memory, or past its end, with the error that this is
 abbrev pub Inside : Puller → List ℕ → Type 0
 Inside p sems = p .semaphore .offset / 4 < length sems
 
@@ -102,11 +101,11 @@ pub record PastEnd (level : Level) (p : Puller) (sems : List ℕ) (e : PullerErr
 abbrev pub wordIn : Puller → List ℕ → ℕ
 wordIn p sems = getD sems (p .semaphore .offset / 4) 0
 
--- "Below level 4, class not 2, not write-only or page table absent"
+-- P9: an object that can't be a semaphore's
 abbrev pub Unfit : Level → Object → Type 0
 Unfit level o = (level .number < 4) × ((o .class ≡ 2 → ⊥) ⊎ (o .writeonly ≡ false) ⊎ (o .paged ≡ false))
 
--- a method that neither a sentence nor "0x100 up" names
+-- P24: a method below 0x100 that no rule names
 pub record Unnamed (m : ℕ) : Type 0 where
   pub special : m < 0x100
   pub not-bind : m ≡ 0x00 → ⊥
@@ -146,8 +145,7 @@ pub record Setters : Type 0 where
       (p : Puller)
       → withoutAcquire p ≡ record { engines = p .engines; last = p .last; reference = p .reference; semaphore = p .semaphore; acquire = record { active = false; value = p .acquire .value }; error = p .error }
 
--- "only methods taken or discarded have further fields ...; param is as handed on, after any lookup": what the event says of a
--- method m that is taken, with x handed on
+-- P22: what the event says of a method m that is taken, with x handed on
 abbrev pub telling : Kind → Method → ℕ → List ℕ
 telling k m x = kindNumber k ∷ m .subchannel ∷ m .method ∷ x ∷ []
 
@@ -156,7 +154,7 @@ pub record Leaves (q : Puller) (said : List ℕ) (r : Taken) : Type 0 where
   pub puller : r .puller ≡ q
   pub event : values (r .event) ≡ said
 
--- q is p stopped by the error e, all else as it was
+-- P20, P21: q is p stopped by the error e, all else as it was
 pub record Failed (p : Puller) (e : PullerError) (q : Puller) : Type 0 where
   pub engines : q .engines ≡ p .engines
   pub last : q .last ≡ p .last
@@ -165,19 +163,19 @@ pub record Failed (p : Puller) (e : PullerError) (q : Puller) : Type 0 where
   pub acquire : q .acquire ≡ p .acquire
   pub error : q .error ≡ e
 
--- r leaves p so stopped and says so, without further fields: "error and a retry (acquire or wait) none"
+-- P20: r leaves p so stopped and says so, without further fields
 pub record Fails (p : Puller) (e : PullerError) (r : Taken) : Type 0 where
   pub puller : Failed p e (r .puller)
   pub event : values (r .event) ≡ kindNumber kind.Error ∷ []
 
--- q is p that the method m has stopped: all but the error stays, or, of engine 0, "the binding is stored, then EMPTY_SUBCHANNEL"
+-- P21, P5: q is p that the method m has stopped: all but the error stays, and the binding where engine 0 was bound
 abbrev pub StoppedBy : Puller → Method → Puller → Type 0
 StoppedBy p m q = Failed p (q .error) q ⊎ Failed (withEngine p (m .subchannel) 0) cause.EmptySubchannel q
 
--- The sentences, of any relation R between what a puller is given with a method and what it leaves: what changes, and nothing
--- else does. Where there is an error, "no semaphore word changes".
+-- The rules as sentences, of any relation R between what a puller is given with a method and what it leaves: what changes, and
+-- nothing else does (P3). Where there is an error, no semaphore word changes (P21).
 pub record Sentences (R : Level → Puller → Method → PullerLoan → Taken → List ℕ → Type 0) : Type 0 where
-  -- "0x00: lookup, bind the engine. ... Otherwise forward method 0 with the object address and make it the last engine."
+  -- P4: bound
   pub bind :
       (level : Level) (p : Puller) (m : Method) (l : PullerLoan) (exit : List ℕ) (o : Object) (r : Taken)
       → R level p m l r exit
@@ -185,7 +183,7 @@ pub record Sentences (R : Level → Puller → Method → PullerLoan → Taken �
       → Names (l .table) (m .parameter) o
       → (o .engine ≡ 0 → ⊥)
       → Leaves (withLast (withEngine p (m .subchannel) (o .engine)) (o .engine)) (telling kind.Bind m (o .address)) r × (exit ≡ l .semaphores)
-  -- "Engine 0 is SOFTWARE: the binding is stored, then EMPTY_SUBCHANNEL."
+  -- P5: engine 0
   pub bind-software :
       (level : Level) (p : Puller) (m : Method) (l : PullerLoan) (exit : List ℕ) (o : Object) (r : Taken)
       → R level p m l r exit
@@ -193,32 +191,32 @@ pub record Sentences (R : Level → Puller → Method → PullerLoan → Taken �
       → Names (l .table) (m .parameter) o
       → o .engine ≡ 0
       → Fails (withEngine p (m .subchannel) 0) cause.EmptySubchannel r × (exit ≡ l .semaphores)
-  -- "none is CACHE_ERROR NO_HASH", at 0x00, 0x60 and 0x180 to 0x1fc
+  -- P2, P19: no object, at each method that looks one up
   pub no-hash :
       (level : Level) (p : Puller) (m : Method) (l : PullerLoan) (exit : List ℕ) (r : Taken)
       → R level p m l r exit
       → ((m .method ≡ 0x00) ⊎ (m .method ≡ 0x60) ⊎ ((0x180 ≤ m .method) × (m .method ≤ 0x1fc)))
       → NamesNone (l .table) (m .parameter)
       → Fails p cause.NoHash r × (exit ≡ l .semaphores)
-  -- "0x50: ref takes the parameter."
+  -- P6: the reference counter
   pub ref :
       (level : Level) (p : Puller) (m : Method) (l : PullerLoan) (exit : List ℕ) (r : Taken)
       → R level p m l r exit
       → m .method ≡ 0x50
       → Leaves (withReference p (m .parameter)) (telling kind.Ref m (m .parameter)) r × (exit ≡ l .semaphores)
-  -- "0x80 and 0x10 to 0x24: an event, no effect."
+  -- P7, P8: told, without effect
   pub event :
       (level : Level) (p : Puller) (m : Method) (l : PullerLoan) (exit : List ℕ) (r : Taken)
       → R level p m l r exit
       → ((m .method ≡ 0x80) ⊎ ((0x10 ≤ m .method) × (m .method ≤ 0x24)))
       → Leaves p (telling kind.Event m (m .parameter)) r × (exit ≡ l .semaphores)
-  -- the methods below 0x100 that no level has, and no pusher submits
+  -- P24: the methods below 0x100 that no level has, and no pusher submits
   pub unnamed :
       (level : Level) (p : Puller) (m : Method) (l : PullerLoan) (exit : List ℕ) (r : Taken)
       → R level p m l r exit
       → Unnamed (m .method)
       → Leaves p (telling kind.Event m (m .parameter)) r × (exit ≡ l .semaphores)
-  -- "0x60: lookup. Below level 4, class not 2, not write-only or page table absent: SEMAPHORE 1."
+  -- P9: not fit for semaphores
   pub dma-unfit :
       (level : Level) (p : Puller) (m : Method) (l : PullerLoan) (exit : List ℕ) (o : Object) (r : Taken)
       → R level p m l r exit
@@ -226,7 +224,7 @@ pub record Sentences (R : Level → Puller → Method → PullerLoan → Taken �
       → Names (l .table) (m .parameter) o
       → Unfit level o
       → Fails p cause.Semaphore1 r × (exit ≡ l .semaphores)
-  -- "The address is stored"
+  -- P10: bound for semaphores
   pub dma :
       (level : Level) (p : Puller) (m : Method) (l : PullerLoan) (exit : List ℕ) (o : Object) (r : Taken)
       → R level p m l r exit
@@ -234,7 +232,7 @@ pub record Sentences (R : Level → Puller → Method → PullerLoan → Taken �
       → Names (l .table) (m .parameter) o
       → (Unfit level o → ⊥)
       → Leaves (withDma p (o .address)) (telling kind.Dma m (o .address)) r × (exit ≡ l .semaphores)
-  -- "0x64: below level 4, any bit outside 0xffc: SEMAPHORE 1."
+  -- P11: an offset with other bits, below level 4
   pub offset-outside :
       (level : Level) (p : Puller) (m : Method) (l : PullerLoan) (exit : List ℕ) (r : Taken)
       → R level p m l r exit
@@ -242,6 +240,7 @@ pub record Sentences (R : Level → Puller → Method → PullerLoan → Taken �
       → level .number < 4
       → ((m .parameter % 4 ≡ 0 → ⊥) ⊎ (m .parameter / 2 ^ 12 % 2 ^ 20 ≡ 0 → ⊥))
       → Fails p cause.Semaphore1 r × (exit ≡ l .semaphores)
+  -- P11: and one without
   pub offset-below-4 :
       (level : Level) (p : Puller) (m : Method) (l : PullerLoan) (exit : List ℕ) (r : Taken)
       → R level p m l r exit
@@ -250,7 +249,7 @@ pub record Sentences (R : Level → Puller → Method → PullerLoan → Taken �
       → m .parameter % 4 ≡ 0
       → m .parameter / 2 ^ 12 % 2 ^ 20 ≡ 0
       → Leaves (withOffset p (m .parameter) (p .semaphore .valid)) (telling kind.Offset m (m .parameter)) r × (exit ≡ l .semaphores)
-  -- "From 4: low two bits, SEMAPHORE 1; then bits 31-16, SEMAPHORE 3; stored and valid."
+  -- P12: an offset that is no multiple of 4, from level 4 on
   pub offset-unaligned :
       (level : Level) (p : Puller) (m : Method) (l : PullerLoan) (exit : List ℕ) (r : Taken)
       → R level p m l r exit
@@ -258,6 +257,7 @@ pub record Sentences (R : Level → Puller → Method → PullerLoan → Taken �
       → 4 ≤ level .number
       → (m .parameter % 4 ≡ 0 → ⊥)
       → Fails p cause.Semaphore1 r × (exit ≡ l .semaphores)
+  -- P12: one that is too large
   pub offset-too-large :
       (level : Level) (p : Puller) (m : Method) (l : PullerLoan) (exit : List ℕ) (r : Taken)
       → R level p m l r exit
@@ -266,6 +266,7 @@ pub record Sentences (R : Level → Puller → Method → PullerLoan → Taken �
       → m .parameter % 4 ≡ 0
       → (m .parameter / 2 ^ 16 % 2 ^ 16 ≡ 0 → ⊥)
       → Fails p cause.Semaphore3 r × (exit ≡ l .semaphores)
+  -- P12: and one that is neither, which becomes valid
   pub offset-from-4 :
       (level : Level) (p : Puller) (m : Method) (l : PullerLoan) (exit : List ℕ) (r : Taken)
       → R level p m l r exit
@@ -274,14 +275,14 @@ pub record Sentences (R : Level → Puller → Method → PullerLoan → Taken �
       → m .parameter % 4 ≡ 0
       → m .parameter / 2 ^ 16 % 2 ^ 16 ≡ 0
       → Leaves (withOffset p (m .parameter) true) (telling kind.Offset m (m .parameter)) r × (exit ≡ l .semaphores)
-  -- "0x68 acquire, 0x6c release: below level 4 unbound, from 4 offset not valid: SEMAPHORE 2."
+  -- P13: no semaphore to acquire or release
   pub unready :
       (level : Level) (p : Puller) (m : Method) (l : PullerLoan) (exit : List ℕ) (r : Taken)
       → R level p m l r exit
       → ((m .method ≡ 0x68) ⊎ (m .method ≡ 0x6c))
       → Unready level p
       → Fails p cause.Semaphore2 r × (exit ≡ l .semaphores)
-  -- "Past its end: SEMAPHORE 2 below level 4, 4 from there."
+  -- P14: past the end of the memory
   pub past-end :
       (level : Level) (p : Puller) (m : Method) (l : PullerLoan) (exit : List ℕ) (e : PullerError) (r : Taken)
       → R level p m l r exit
@@ -289,7 +290,7 @@ pub record Sentences (R : Level → Puller → Method → PullerLoan → Taken �
       → Ready level p
       → PastEnd level p (l .semaphores) e
       → Fails p e r × (exit ≡ l .semaphores)
-  -- "Acquire goes on when equal,"
+  -- P15: equal, and it goes on
   pub acquire :
       (level : Level) (p : Puller) (m : Method) (l : PullerLoan) (exit : List ℕ) (r : Taken)
       → R level p m l r exit
@@ -298,7 +299,7 @@ pub record Sentences (R : Level → Puller → Method → PullerLoan → Taken �
       → Inside p (l .semaphores)
       → wordIn p (l .semaphores) ≡ m .parameter
       → Leaves p (telling kind.Acquire m (m .parameter)) r × (exit ≡ l .semaphores)
-  -- "else is active and waits, its value stored."
+  -- P15: unequal, and it waits
   pub wait :
       (level : Level) (p : Puller) (m : Method) (l : PullerLoan) (exit : List ℕ) (r : Taken)
       → R level p m l r exit
@@ -307,7 +308,7 @@ pub record Sentences (R : Level → Puller → Method → PullerLoan → Taken �
       → Inside p (l .semaphores)
       → (wordIn p (l .semaphores) ≡ m .parameter → ⊥)
       → Leaves (withAcquire p true (m .parameter)) (telling kind.Wait m (m .parameter)) r × (exit ≡ l .semaphores)
-  -- "Release writes that word only."
+  -- P17: that word is written
   pub release :
       (level : Level) (p : Puller) (m : Method) (l : PullerLoan) (exit : List ℕ) (r : Taken)
       → R level p m l r exit
@@ -315,7 +316,7 @@ pub record Sentences (R : Level → Puller → Method → PullerLoan → Taken �
       → Ready level p
       → Inside p (l .semaphores)
       → Leaves p (telling kind.Release m (m .parameter)) r × (exit ≡ set (l .semaphores) (p .semaphore .offset / 4) (m .parameter))
-  -- "0x100 up: ... Engine 0: EMPTY_SUBCHANNEL."
+  -- P18: no engine is bound
   pub forward-software :
       (level : Level) (p : Puller) (m : Method) (l : PullerLoan) (exit : List ℕ) (r : Taken)
       → R level p m l r exit
@@ -323,7 +324,7 @@ pub record Sentences (R : Level → Puller → Method → PullerLoan → Taken �
       → ((m .method < 0x180) ⊎ (0x1fc < m .method))
       → engineAt p (m .subchannel) ≡ 0
       → Fails p cause.EmptySubchannel r × (exit ≡ l .semaphores)
-  -- "Else forward, and the engine becomes last."
+  -- P18: handed on
   pub forward :
       (level : Level) (p : Puller) (m : Method) (l : PullerLoan) (exit : List ℕ) (r : Taken)
       → R level p m l r exit
@@ -331,7 +332,7 @@ pub record Sentences (R : Level → Puller → Method → PullerLoan → Taken �
       → ((m .method < 0x180) ⊎ (0x1fc < m .method))
       → (engineAt p (m .subchannel) ≡ 0 → ⊥)
       → Leaves (withLast p (engineAt p (m .subchannel))) (telling kind.Forward m (m .parameter)) r × (exit ≡ l .semaphores)
-  -- "for 0x180 to 0x1fc the parameter becomes the looked-up address first"
+  -- P19: the same with an object: no engine is bound
   pub object-software :
       (level : Level) (p : Puller) (m : Method) (l : PullerLoan) (exit : List ℕ) (o : Object) (r : Taken)
       → R level p m l r exit
@@ -340,6 +341,7 @@ pub record Sentences (R : Level → Puller → Method → PullerLoan → Taken �
       → Names (l .table) (m .parameter) o
       → engineAt p (m .subchannel) ≡ 0
       → Fails p cause.EmptySubchannel r × (exit ≡ l .semaphores)
+  -- P19: handed on, with the object's address
   pub object :
       (level : Level) (p : Puller) (m : Method) (l : PullerLoan) (exit : List ℕ) (o : Object) (r : Taken)
       → R level p m l r exit
@@ -353,8 +355,8 @@ pub record Sentences (R : Level → Puller → Method → PullerLoan → Taken �
 abbrev pub Pulls : Type 0
 Pulls = Sentences Takes
 
--- "A retry makes only the end test and the comparison; equal clears active." It has no further fields. The sentences, of any
--- relation R between what a puller is given, with the semaphore memory, and what it leaves.
+-- P16: the rule of a retry as sentences, of any relation R between what a puller is given, with the semaphore memory, and what it
+-- leaves. Its event has no fields.
 pub record RetrySentences (R : Level → Puller → List ℕ → Taken → Type 0) : Type 0 where
   pub past-end : (level : Level) (p : Puller) (sems : List ℕ) (e : PullerError) (r : Taken) → R level p sems r → PastEnd level p sems e → Fails p e r
   pub equal :
@@ -389,16 +391,16 @@ pub record NoOther : Type 1 where
       → R level p sems r
       → Retries level p sems r
 
--- The errors' numbers: "CACHE_ERROR NO_HASH", EMPTY_SUBCHANNEL, SEMAPHORE 1 to 4 in that order, and 0 for none. "Any puller error
--- stops the channel": `stopped` says whether there is one.
+-- P23: the errors in order, after none.
 abbrev pub errorList : List (Option PullerError)
 errorList = map some (cause.None ∷ cause.NoHash ∷ cause.EmptySubchannel ∷ cause.Semaphore1 ∷ cause.Semaphore2 ∷ cause.Semaphore3 ∷ cause.Semaphore4 ∷ [])
 
+-- P23, S4: every error stands there, by its number; and `stopped` says whether there is one
 pub record Errors : Type 0 where
   pub numbers : StandsIn errorList number
   pub stopped : (p : Puller) (a : Bool) → Halts p a → a ≡ true ↔ (number (p .error) ≡ 0 → ⊥)
 
--- "Any puller error stops the channel; ... (a retry has none and stays active); no semaphore word changes."
+-- P20, P21: what an error leaves: its event, and no semaphore word written;
 pub record Failing : Type 0 where
   pub take :
       (level : Level) (p : Puller) (m : Method) (l : PullerLoan) (exit : List ℕ) (r : Taken)
@@ -406,7 +408,7 @@ pub record Failing : Type 0 where
       → number (p .error) ≡ 0
       → (number (r .puller .error) ≡ 0 → ⊥)
       → (values (r .event) ≡ kindNumber kind.Error ∷ []) × (exit ≡ l .semaphores)
-  -- and the puller has changed in nothing else
+  -- P21: and the puller has changed in nothing else
   pub stays :
       (level : Level) (p : Puller) (m : Method) (l : PullerLoan) (exit : List ℕ) (r : Taken)
       → Takes level p m l r exit

@@ -8,7 +8,7 @@ use Rattle.puller.specs.declared.record.PullerError.the-variants as caus
 use Rattle.puller.specs.declared.record.Semaphore.{Semaphore}
 use Rattle.puller.specs.declared.record.Puller.{Puller}
 
--- CACHE_ERROR NO_HASH and EMPTY_SUBCHANNEL, SEMAPHORE 1 to 4, in that order; 0 is none
+-- P23: the errors' numbers; 0 is none
 unfoldable pub number : PullerError → ℕ
 number cause.None = 0
 number cause.NoHash = 1
@@ -18,20 +18,22 @@ number cause.Semaphore2 = 4
 number cause.Semaphore3 = 5
 number cause.Semaphore4 = 6
 
--- "Any puller error stops the channel"
+-- S4, P20: an error stops the puller
 unfoldable pub halts : PullerError → Bool
 halts e = not (eqb (number e) 0)
 
+-- P20: the error is stored, and nothing else with it
 abbrev pub withError : Puller → PullerError → Puller
 withError p e = record { engines = p .engines; last = p .last; reference = p .reference; semaphore = p .semaphore; acquire = p .acquire; error = e }
 
--- the engine of a subchannel; there are eight, and a number above them reads 0 and stores nothing
+-- P24: the engine of a subchannel; there are eight, and a number above them reads 0 and stores nothing
 abbrev pub engineOf : Puller → ℕ → ℕ
 engineOf p s = getD (p .engines) s 0
 
 abbrev pub withEngine : Puller → ℕ → ℕ → Puller
 withEngine p s e = record { engines = set (p .engines) s e; last = p .last; reference = p .reference; semaphore = p .semaphore; acquire = p .acquire; error = p .error }
 
+-- the record with another number and all else as it was
 abbrev pub withLast : Puller → ℕ → Puller
 withLast p e = record { engines = p .engines; last = e; reference = p .reference; semaphore = p .semaphore; acquire = p .acquire; error = p .error }
 

@@ -1,4 +1,4 @@
--- The paper's 'The puller': what it does with a method, and with an acquire that waits.
+-- What the puller does with a method, and with an acquire that waits (docs/CARD.md, P).
 use Prim.Native.Nat.{ℕ, _/_}
 use mathlib.Core.Bool.{Bool, true, false, not, _&&_, _||_}
 use mathlib.Core.List.{List, [], _∷_}
@@ -36,8 +36,7 @@ pub record Row : Type 0 where
 abbrev row : ℕ → ℕ → Deed → Row
 row from to deed = record { from = from; to = to; deed = deed }
 
--- "0x00: lookup, bind the engine", "0x50: ref takes the parameter", "0x80 and 0x10 to 0x24: an event, no effect", "0x60:
--- lookup", "0x64", "0x68 acquire, 0x6c release", "for 0x180 to 0x1fc the parameter becomes the looked-up address first"
+-- P3: the methods by their byte numbers
 unfoldable pub rows : List Row
 rows =
     row 0x00 0x00 binds
@@ -51,7 +50,7 @@ rows =
     ∷ row 0x180 0x1fc looksAndForwards
     ∷ []
 
--- "0x100 up: ... forward". The pusher submits no other method below 0x100; such a one would have no effect.
+-- P18, P24: from 0x100 up the others are forwarded; below, a method that no pusher submits has no effect
 unfoldable pub deedIn : List Row → ℕ → Deed
 deedIn [] m = choose (leb 0x100 m) forwards logs
 deedIn (r ∷ rs) m = choose (leb (r .from) m && leb m (r .to)) (r .deed) (deedIn rs m)
@@ -59,39 +58,41 @@ deedIn (r ∷ rs) m = choose (leb (r .from) m && leb m (r .to)) (r .deed) (deedI
 unfoldable pub deedOf : ℕ → Deed
 deedOf m = deedIn rows m
 
--- the event of a method taken, "param is as handed on, after any lookup"; an error has no further fields
+-- P22: the event of a method taken, with the parameter that is handed on
 abbrev pub doneWith : Puller → Kind → Method → ℕ → Taken
 doneWith p k m x = record { puller = p; event = Of k (record { subchannel = m .subchannel; method = m .method; parameter = x }) }
 
 abbrev pub saying : Puller → Kind → Taken
 saying p k = record { puller = p; event = Plain k }
 
+-- P20: an error has no fields
 abbrev pub failedBy : Puller → PullerError → Taken
 failedBy p e = saying (withError p e) kind.Error
 
--- "none is CACHE_ERROR NO_HASH"
+-- P2: a handle that names no object is NO_HASH
 unfoldable pub lookingUp : Puller → Found → (Object → Taken) → Taken
 lookingUp p (found.Object o) next = next o
 lookingUp p found.Nothing next = failedBy p cause.NoHash
 
--- "Engine 0 is SOFTWARE: the binding is stored, then EMPTY_SUBCHANNEL. Otherwise forward method 0 with the object address and
--- make it the last engine."
+-- P4, P5: the engine is bound, and becomes the last one, unless it is 0
 unfoldable pub bindTo : Puller → Method → Object → Taken
 bindTo p m o =
     choose (eqb (o .engine) 0) (failedBy (withEngine p (m .subchannel) (o .engine)) cause.EmptySubchannel)
     (doneWith (withLast (withEngine p (m .subchannel) (o .engine)) (o .engine)) kind.Bind m (o .address))
 
+-- P4: the parameter is a handle
 unfoldable pub bindOf : Puller → Method → List ℕ → Taken
 bindOf p m t = lookingUp p (lookupOf t (m .parameter)) (bindTo p m)
 
--- "ref takes the parameter"
+-- P6: the reference counter
 abbrev pub refOf : Puller → Method → Taken
 refOf p m = doneWith (withReference p (m .parameter)) kind.Ref m (m .parameter)
 
--- "Below level 4, class not 2, not write-only or page table absent: SEMAPHORE 1. The address is stored; 0 counts as unbound."
+-- P9: an object that can't be a semaphore's, below level 4
 unfoldable pub unfitFor : ℕ → Object → Bool
 unfitFor level o = ltb level 4 && (not (eqb (o .class) 2) || (not (o .writeonly) || not (o .paged)))
 
+-- P9, P10: SEMAPHORE 1, or its address is stored
 unfoldable pub dmaTo : ℕ → Puller → Method → Object → Taken
 dmaTo level p m o =
     choose (unfitFor level o) (failedBy p cause.Semaphore1)
@@ -100,11 +101,11 @@ dmaTo level p m o =
 unfoldable pub dmaOf : ℕ → Puller → Method → List ℕ → Taken
 dmaOf level p m t = lookingUp p (lookupOf t (m .parameter)) (dmaTo level p m)
 
--- "below level 4, any bit outside 0xffc: SEMAPHORE 1. From 4: low two bits, SEMAPHORE 1; then bits 31-16, SEMAPHORE 3; stored
--- and valid."
+-- an offset that is stored
 abbrev pub offsetStored : Puller → Method → Bool → Taken
 offsetStored p m valid = doneWith (withOffset p (m .parameter) valid) kind.Offset m (m .parameter)
 
+-- P11, P12: which bits an offset may not have, below level 4 and from there
 unfoldable pub offsetOf : ℕ → Puller → Method → Taken
 offsetOf level p m =
     choose (ltb level 4)
@@ -114,22 +115,22 @@ offsetOf level p m =
     (choose (not (eqb (bits 31 16 (m .parameter)) 0)) (failedBy p cause.Semaphore3)
     (offsetStored p m true)))
 
--- "below level 4 unbound, from 4 offset not valid: SEMAPHORE 2"
+-- P13, P10: below level 4 no object is bound, from there no offset is valid
 unfoldable pub unreadyAt : ℕ → Puller → Bool
 unreadyAt level p = choose (ltb level 4) (eqb (p .semaphore .dma) 0) (not (p .semaphore .valid))
 
--- "The word is at offset/4, rounded down, of the semaphore memory whatever the object."
+-- P14: the place of the semaphore's word
 abbrev pub placeOf : Puller → ℕ
 placeOf p = p .semaphore .offset / 4
 
--- "Past its end: SEMAPHORE 2 below level 4, 4 from there."
+-- P14: whether the memory ends before it, and the error that this is
 abbrev pub isPast : ℕ → List ℕ → Bool
 isPast place sems = leb (length sems) place
 
 unfoldable pub pastEnd : ℕ → PullerError
 pastEnd level = choose (ltb level 4) cause.Semaphore2 cause.Semaphore4
 
--- What an acquire of a value comes to at a place of the memory: there is no such word, it "goes on when equal", or it waits.
+-- P14, P15, P16: what an acquire of a value comes to at a place of the memory: there is no such word, it goes on, or it waits.
 unfoldable pub trialOf : ℕ → ℕ → List ℕ → Trial
 trialOf place value sems =
     choose (isPast place sems) trial.Outside
@@ -141,7 +142,7 @@ tried level p trial.Outside passes waits = failedBy p (pastEnd level)
 tried level p trial.Passes passes waits = passes
 tried level p trial.Waits passes waits = waits
 
--- "else is active and waits, its value stored"
+-- P13, P15: an acquire that passes changes nothing; one that waits is active, with its value
 unfoldable pub acquireOf : ℕ → Puller → Method → List ℕ → Taken
 acquireOf level p m sems =
     choose (unreadyAt level p) (failedBy p cause.Semaphore2)
@@ -149,19 +150,20 @@ acquireOf level p m sems =
     (doneWith p kind.Acquire m (m .parameter))
     (doneWith (withAcquire p true (m .parameter)) kind.Wait m (m .parameter)))
 
--- "A retry makes only the end test and the comparison; equal clears active." A retry has no further fields.
+-- P16: a retry asks for neither object nor offset, and its event has no fields
 unfoldable pub retryOf : ℕ → Puller → List ℕ → Taken
 retryOf level p sems =
     tried level p (trialOf (placeOf p) (p .acquire .value) sems)
     (saying (withoutAcquire p) kind.Acquire)
     (saying p kind.Wait)
 
--- "Engine 0: EMPTY_SUBCHANNEL. Else forward, and the engine becomes last."
+-- P18: handed on to the subchannel's engine, if it has one
 unfoldable pub forwardOf : Puller → Method → ℕ → Taken
 forwardOf p m x =
     choose (eqb (engineOf p (m .subchannel)) 0) (failedBy p cause.EmptySubchannel)
     (doneWith (withLast p (engineOf p (m .subchannel))) kind.Forward m x)
 
+-- P19: the same with the address of the object that the parameter names
 unfoldable pub forwardObjectOf : Puller → Method → List ℕ → Taken
 forwardObjectOf p m t = lookingUp p (lookupOf t (m .parameter)) (λ (o : Object). forwardOf p m (o .address))
 
@@ -174,14 +176,14 @@ pub record Result : Type 0 where
 abbrev pub unwritten : List ℕ → Taken → Result
 unwritten sems t = record { taken = t; memory = sems }
 
--- "Release writes that word only."
+-- P13, P14, P17: a release writes that word only; P21: an error writes none
 unfoldable pub releaseOf : ℕ → Puller → Method → List ℕ → Result
 releaseOf level p m sems =
     choose (unreadyAt level p) (unwritten sems (failedBy p cause.Semaphore2))
     (choose (isPast (placeOf p) sems) (unwritten sems (failedBy p (pastEnd level)))
     (record { taken = doneWith p kind.Release m (m .parameter); memory = set sems (placeOf p) (m .parameter) }))
 
--- every other method leaves the memory
+-- P3, P7, P8: what each method does; all but the release leave the memory
 unfoldable pub act : ℕ → Puller → Method → PullerLoan → Deed → Result
 act level p m l binds = unwritten (l .semaphores) (bindOf p m (l .table))
 act level p m l refers = unwritten (l .semaphores) (refOf p m)
@@ -193,5 +195,6 @@ act level p m l releases = releaseOf level p m (l .semaphores)
 act level p m l forwards = unwritten (l .semaphores) (forwardOf p m (m .parameter))
 act level p m l looksAndForwards = unwritten (l .semaphores) (forwardObjectOf p m (l .table))
 
+-- one method taken
 unfoldable pub takeOf : ℕ → Puller → Method → PullerLoan → Result
 takeOf level p m l = act level p m l (deedOf (m .method))

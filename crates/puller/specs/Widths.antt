@@ -11,7 +11,7 @@ use Rattle.puller.specs.Contracts.{Takes, Retries}
 use Rattle.puller.specs.declared.record.Puller.{Puller}
 use Rattle.puller.specs.declared.taking.Taken.{Taken}
 
--- "engine 5", of the last and of the eight that are bound; "all other numbers 32"
+-- R32: the engines, the last one and the eight that are bound, and the numbers of 32 bits
 pub record PullerFields (engines-are : List ℕ) (last-is reference-is dma-is offset-is value-is : ℕ) : Type 0 where
   pub engines : (subchannel : ℕ) → subchannel < 8 → getD engines-are subchannel 0 < 2 ^ 5
   pub last : last-is < 2 ^ 5
@@ -23,6 +23,7 @@ pub record PullerFields (engines-are : List ℕ) (last-is reference-is dma-is of
 abbrev pub PullerFits : Puller → Type 0
 PullerFits p = PullerFields (p .engines) (p .last) (p .reference) (p .semaphore .dma) (p .semaphore .offset) (p .acquire .value)
 
+-- S31: neither a method taken nor a retry leaves these widths
 pub record KeepsWidths : Type 0 where
   -- of a method with a subchannel and a parameter of their widths, and a table of words
   pub take :

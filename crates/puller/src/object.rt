@@ -19,7 +19,7 @@ pub enum Found {
     Nothing,
 }
 
-// The lowest entry that repeats an earlier one, if any does.
+// The first entry whose handle stood before, if there is one.
 pub enum Repeat {
     Entry { index: usize },
     Nothing,

@@ -54,7 +54,7 @@ pub fn take(
     }
 }
 
-// Reads the semaphore of an active acquire again: only the end test and the comparison.
+// Reads the semaphore of an active acquire again (P16): whether there is such a word, and its value.
 pub fn retry(level: Level, puller: Puller, semaphores: &[u32]) -> Taken
     ensures { λ r. ⌜ Retries level puller (now (semaphores .entry)) r ⌝ }
 {

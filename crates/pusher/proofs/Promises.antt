@@ -36,7 +36,7 @@ use Rattle.pusher.proofs.Outcomes.{says-of, discards-of, hands-over-of,
 use Rattle.pusher.proofs.Sentences.{runs, stands, past-of, keeps, by-role, count-is, parameter-is, command-is, non-cache-is, discard-is, submit-is, taken, rises-of, used-up-is, entry-is, empty-is, not-main-is, main-is}
 use Rattle.pusher.proofs.Told.{error-numbered}
 
--- "above dma_limit ..., or beyond the lent words"
+-- S10: above the limit, or beyond the lent words
 beyond-is : (s : Setup) (p : Pusher) (l : PusherLoan) → Running p → (p .get ≡ p .put → ⊥) → ((s .limit < p .get) ⊎ (length (l .words) ≤ p .get / 4)) → role s p l ≡ faults
 beyond-is s p l run n h = when-words s p l (runs (p .error) run) n ∙ ⊎-elim (above-limit s p (l .words)) (past-words s p (l .words)) h
 

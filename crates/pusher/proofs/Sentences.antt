@@ -1,4 +1,4 @@
--- What a move does where each of the paper's sentences applies. Assumes nothing.
+-- What a move does where each of the sentences applies. Assumes nothing.
 use Prim.Native.Nat.{ℕ, _+_, _/_, _%_, _^_}
 use mathlib.Core.Path.{_≡_, refl, sym, ap, ap₂, _∙_}
 use mathlib.Core.Bool.{Bool, true, false, not, _&&_, and-false, false≢true}

@@ -6,7 +6,7 @@ use lib.ListN.{getD}
 use Rattle.word.specs.Parts.{Part, carries, address, spare, numbersIn}
 use Rattle.pusher.specs.declared.entry.Entry.{Entry}
 
--- "IB entry (64 bits): address bits 39-2, NOT_MAIN bit 41, size in words bits 63-42; bits 0, 1, 40 ignored."
+-- E1: the parts of an entry, from bit 63 down
 unfoldable pub parts : List Part
 parts = carries 63 42 ∷ carries 41 41 ∷ spare 40 40 ∷ address 39 2 ∷ spare 1 0 ∷ []
 
@@ -14,5 +14,6 @@ parts = carries 63 42 ∷ carries 41 41 ∷ spare 40 40 ∷ address 39 2 ∷ spa
 abbrev entryWith : List ℕ → Entry
 entryWith ns = record { address = getD ns 2 0; size = getD ns 0 0; nonmain = eqb (getD ns 1 0) 1 }
 
+-- E1: an entry taken apart
 unfoldable pub entryOf : ℕ → Entry
 entryOf e = entryWith (numbersIn parts e)

@@ -1,4 +1,4 @@
--- The pusher's part of the paper's 'One step of the channel'.
+-- One move of the pusher: the part of a step that reads a word (S6) or an IB entry (S7).
 use Prim.Native.Nat.{ℕ, _+_, _-_, _*_, _/_, _%_, _^_}
 use mathlib.Core.Bool.{Bool, true, false, not, _&&_, _||_}
 use mathlib.Core.List.{List}
@@ -26,30 +26,32 @@ use Rattle.pusher.specs.declared.entry.Entry.{Entry}
 use Rattle.pusher.specs.declared.moving.Did.the-variants as did
 use Rattle.pusher.specs.declared.moving.Pushed.{Pushed}
 
--- What a move is about to do: the paper's list without the acquire, which is the puller's, its third and fourth taken apart.
+-- What a move is about to do: S4, S6, S7 and S8, the reading of a word or an entry taken apart. (An acquire that waits is the puller's.)
 pub data Role : Type 0 where
-  -- "Stopped by an error"
+  -- S4: an error has stopped it
   halted : Role
-  -- the word or the entry to be read is not there
+  -- S10, E2: the word or the entry to be read is not there
   faults : Role
-  -- "The word is the count if a long form waits for one, else a parameter while the count isn't used up, else a command."
+  -- S14: the word is a count, a parameter or a command
   counts submits commands : Role
-  -- an IB entry is read
+  -- S7: an IB entry is read
   enters : Role
+  -- S8: there is nothing to read
   idles : Role
 
--- "A word at address g faults with PROTECTION if g is above dma_limit, in either mode, or beyond the lent words"
+-- S10: the limit, in either mode, or the lent words end before the word
 abbrev pub beyond : Setup → Pusher → List ℕ → Bool
 beyond s p ws = ltb (s .limit) (p .get) || leb (length ws) (p .get / 4)
 
+-- S14: what the word is, by what is open
 unfoldable pub wordRole : Setup → Pusher → List ℕ → Role
 wordRole s p ws = choose (beyond s p ws) faults (choose (p .run .awaited) counts (choose (not (eqb (p .run .count) 0)) submits commands))
 
--- "An index past the lent entries is PROTECTION"
+-- E2: the lent entries end before the entry
 unfoldable pub entryRole : Pusher → List ℕ → Role
 entryRole p es = choose (leb (length es) (p .ib .get)) faults enters
 
--- "Read address unequal to put: reads one word. IB mode, ib_get unequal to ib_put: reads one entry. Idle."
+-- S4, S6, S7, S8: the first that applies
 unfoldable pub role : Setup → Pusher → PusherLoan → Role
 role s p l =
     choose (halts (p .error)) halted
@@ -61,76 +63,75 @@ role s p l =
 abbrev pub quietly : Pusher → Kind → Pushed
 quietly p k = record { pusher = p; did = did.Event (Plain k) }
 
+-- S27: it says error alone, and the error is stored
 abbrev pub failedBy : Pusher → PusherError → Pushed
 failedBy p e = quietly (withError p e) kind.Error
 
--- "the read address rises by 4 first"; "When NOT_MAIN is clear ... each advance copies the read address to it and sets its
--- valid flag. NV04-style leaves it."
+-- S12: whether dma_mget follows the read address
 abbrev pub follows : Setup → Pusher → Bool
 follows s p = eqb (s .setting .mode .number) 1 && not (p .main .nonmain)
 
+-- S11, S12: the pusher past a word
 unfoldable pub advanced : Setup → Pusher → Pusher
 advanced s p =
     choose (follows s p) (withMain (withGet p (p .get + 4)) (record { nonmain = p .main .nonmain; mget = p .get + 4; valid = true }))
     (withGet p (p .get + 4))
 
--- "the low 24 bits of the next word are the count"
+-- S15: a long form's count
 unfoldable pub counted : Pusher → ℕ → Pushed
 counted p w = quietly (withRun p (withAwaited (withCount (p .run) (bits 23 0 w)) false)) kind.Count
 
--- "Each parameter submits its method": 4 times the method's number
+-- S24: the method that a parameter goes to, by its byte number
 abbrev pub methodOf : Pusher → ℕ → Method
 methodOf p w = record { subchannel = p .run .subchannel; method = 4 * p .run .method; parameter = w }
 
--- "an increasing method then rises by one modulo 2,048"
+-- S25: the number of the next parameter's method
 abbrev pub rises : Pusher → ℕ
 rises p = choose (p .run .increasing) ((p .run .method + 1) % 2048) (p .run .method)
 
--- the run past a parameter
+-- S25: the run past a parameter
 abbrev pub usedUp : Pusher → Pusher
 usedUp p = withRun p (withMethod (withCount (p .run) (p .run .count - 1)) (rises p))
 
--- "A method below 0x100 that the level lacks is NON_CACHE, tested before SLI discard." "If SLI is enabled and not active, the
--- method is discarded; else the puller takes it in the same step."
+-- S24: NON_CACHE first, then the discard, else the method is submitted
 unfoldable pub parameterOf : Setup → Pusher → ℕ → Pushed
 parameterOf s p w =
     choose (not (presentOf (s .setting .level .number) (p .run .method))) (failedBy p cause.NonCache)
     (choose (s .setting .sli && not (p .sli .active)) (record { pusher = usedUp p; did = did.Event (Of kind.Discard (methodOf p w)) })
     (record { pusher = usedUp p; did = did.Submit (methodOf p w) }))
 
--- "A command with count 0 does nothing."
+-- S16, S17: a run of parameters is open, or with count 0 nothing is done
 unfoldable pub begun : Pusher → ℕ → ℕ → ℕ → Bool → Pushed
 begun p c s m up =
     choose (eqb c 0) (quietly p kind.Command)
     (quietly (withRun p (record { count = c; method = m / 4; subchannel = s; increasing = up; awaited = p .run .awaited })) kind.Command)
 
--- "An SLI conditional sets sli_active exactly if its mask and the channel's share a set bit, else clears it."
+-- S19: an SLI conditional
 unfoldable pub conditional : Pusher → ℕ → Pushed
 conditional p k = quietly (withActive p (not (eqb (bitAnd k (p .sli .mask)) 0))) kind.Command
 
--- "Jump, call and return are as in document 004": a jump sets the read address to the target;
+-- S20: a jump sets the read address to the target
 abbrev pub jumped : Pusher → ℕ → Pushed
 jumped p t = quietly (withGet p t) kind.Command
 
--- a call copies it to the return address, which has 32 bits, sets the subroutine active, and sets it to the target, or is CALL
--- where one is active already;
+-- S21: a call stores the read address, which is behind the call, as the return address of 32 bits
 unfoldable pub called : Pusher → ℕ → Pushed
 called p t =
     choose (p .subroutine .active) (failedBy p cause.Call)
     (quietly (withGet (withSubroutine p true (p .get % 2 ^ 32)) t) kind.Command)
 
--- a return copies the return address to it and clears the subroutine, or is RETURN where none is active
+-- S22: a return goes back there, and leaves the return address
 unfoldable pub returned : Pusher → Pushed
 returned p =
     choose (not (p .subroutine .active)) (failedBy p cause.Return)
     (quietly (withGet (withSubroutine p false (p .subroutine .back)) (p .subroutine .back)) kind.Command)
 
--- a long form stores its method and waits for its count
+-- S18: a long form stores its method and waits for its count
 abbrev pub awaiting : Pusher → ℕ → ℕ → Pushed
 awaiting p s m =
     quietly (withRun p (record { count = p .run .count; method = m / 4; subchannel = s; increasing = false; awaited = true })) kind.Command
 
--- what a command does; methods are byte numbers, 4 times their number
+-- S13, S23: what a command does, by its form; methods are byte numbers, 4 times their number
 unfoldable pub commanded : Pusher → Reading → Pushed
 commanded p (Increasing c s m) = begun p c s m true
 commanded p (NonIncreasing c s m) = begun p c s m false
@@ -143,25 +144,25 @@ commanded p (Call t) = called p t
 commanded p Reserved = failedBy p cause.ReservedCmd
 commanded p (Refused n) = failedBy p cause.ReservedCmd
 
--- "ib_get rises by 1 modulo 2^ib_order"; no opening takes an order above 12, which would count as 12
+-- E3, E8: the index after another
 unfoldable pub nextIndex : ℕ → ℕ → ℕ
 nextIndex order i = (i + 1) % 2 ^ choose (ltb 12 order) 12 order
 
--- "Put is address plus 4 times size modulo 2^40." "When NOT_MAIN is clear, dma_mget takes the address"
+-- E5, E6: the stretch of words that an entry names, ready to be read
 unfoldable pub prepared : Pusher → Entry → Pusher
 prepared p e =
     withMain (withPut (withGet p (e .address)) ((e .address + 4 * e .size) % 2 ^ 40))
     (record { nonmain = e .nonmain; mget = choose (e .nonmain) (p .main .mget) (e .address); valid = p .main .valid })
 
--- "Size 0: error IB after that rise, nothing else changes."
+-- E4, E7: an entry that was read, ib_get having risen
 unfoldable pub entered : Pusher → Entry → Pushed
 entered p e = choose (eqb (e .size) 0) (failedBy p cause.Ib) (quietly (prepared p e) kind.Entry)
 
--- the word at the read address
+-- S9: the word at the read address
 abbrev pub wordAt : Pusher → List ℕ → ℕ
 wordAt p ws = getD ws (p .get / 4) 0
 
--- "g stays. Otherwise the read address rises by 4 first."
+-- S11, S13: what a move does in a role: what reads a word advances first. S28: a fault leaves the read address, and ib_get
 unfoldable pub act : Setup → Pusher → PusherLoan → Role → Pushed
 act s p l halted = quietly p kind.Stopped
 act s p l faults = failedBy p cause.Protection
@@ -171,5 +172,6 @@ act s p l commands = commanded (advanced s p) (readOf (s .setting) (wordAt p (l 
 act s p l enters = entered (withIb p (nextIndex (s .order) (p .ib .get)) (p .ib .put)) (entryOf (getD (l .entries) (p .ib .get) 0))
 act s p l idles = quietly p kind.Idle
 
+-- one move
 unfoldable pub pushOf : Setup → Pusher → PusherLoan → Pushed
 pushOf s p l = act s p l (role s p l)

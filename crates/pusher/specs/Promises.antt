@@ -35,36 +35,35 @@ Running p = number (p .error) ≡ 0
 abbrev pub InIb : Setup → Type 0
 InIb s = s .setting .mode .number ≡ 1
 
--- "Read address unequal to put: reads one word": the one at the read address, neither above the limit nor beyond the lent words
+-- S6, S9, S10: a word is read, the one at the read address, neither above the limit nor beyond the lent words
 pub record ReadsWord (s : Setup) (p : Pusher) (l : PusherLoan) : Type 0 where
   pub running : Running p
   pub unequal : p .get ≡ p .put → ⊥
   pub limit : p .get ≤ s .limit
   pub lent : p .get / 4 < length (l .words)
 
--- "The word is the count if a long form waits for one"
+-- S14: it is read as a count
 pub record ReadsCount (s : Setup) (p : Pusher) (l : PusherLoan) : Type 0 where
   pub word : ReadsWord s p l
   pub awaited : p .run .awaited ≡ true
 
--- "else a parameter while the count isn't used up"
+-- S14: it is read as a parameter
 pub record ReadsParameter (s : Setup) (p : Pusher) (l : PusherLoan) : Type 0 where
   pub word : ReadsWord s p l
   pub unawaited : p .run .awaited ≡ false
   pub left : p .run .count ≡ 0 → ⊥
 
--- "else a command"
+-- S14: it is read as a command
 pub record ReadsCommand (s : Setup) (p : Pusher) (l : PusherLoan) : Type 0 where
   pub word : ReadsWord s p l
   pub unawaited : p .run .awaited ≡ false
   pub none-left : p .run .count ≡ 0
 
--- w is the word at the read address
+-- S9: w is the word at the read address
 abbrev pub IsWord : Pusher → PusherLoan → ℕ → Type 0
 IsWord p l w = w ≡ getD (l .words) (p .get / 4) 0
 
--- "Otherwise the read address rises by 4 first": q is the pusher past the word. "When NOT_MAIN is clear, ... each advance
--- copies the read address to it and sets its valid flag. NV04-style leaves it."
+-- S11, S12: q is the pusher past the word
 pub record Past (s : Setup) (p q : Pusher) : Type 0 where
   pub nv04-style : (InIb s → ⊥) → q ≡ withGet p (p .get + 4)
   pub not-main : p .main .nonmain ≡ true → q ≡ withGet p (p .get + 4)
@@ -76,16 +75,16 @@ pub record ParameterRead (s : Setup) (p q : Pusher) (l : PusherLoan) (w : ℕ) :
   pub word : IsWord p l w
   pub past : Past s p q
 
--- "an increasing method then rises by one modulo 2,048": n is the method's number after a parameter
+-- S25: n is the method's number after a parameter
 pub record Rises (r : Run) (n : ℕ) : Type 0 where
   pub increasing : r .increasing ≡ true → n ≡ (r .method + 1) % 2048
   pub other : r .increasing ≡ false → n ≡ r .method
 
--- the run with one parameter less
+-- S25: the run with one parameter less
 abbrev pub lessOne : Run → ℕ → Run
 lessOne r n = withMethod (withCount r (r .count - 1)) n
 
--- a word is read as a command with the number k, its form's place in the paper's list, and these values; q is the pusher past it
+-- a word is read as a command with the number k, its form's in the table of forms, and these values; q is the pusher past it
 pub record CommandRead (s : Setup) (p q : Pusher) (l : PusherLoan) (k : ℕ) (ns : List ℕ) : Type 0 where
   pub read : ReadsCommand s p l
   pub past : Past s p q
@@ -102,33 +101,33 @@ pub record Share (a b : ℕ) : Type 0 where
   pub one : a / 2 ^ bit % 2 ≡ 1
   pub other : b / 2 ^ bit % 2 ≡ 1
 
--- "IB mode, ib_get unequal to ib_put: reads one entry"
+-- S7: an entry is to be read
 pub record EntryNext (s : Setup) (p : Pusher) : Type 0 where
   pub running : Running p
   pub equal : p .get ≡ p .put
   pub ib : InIb s
   pub unequal : p .ib .get ≡ p .ib .put → ⊥
 
--- "ib_get rises by 1 modulo 2^ib_order" to i; an order above 12, which no opening takes, would count as 12
+-- E3, E8: ib_get rises to i
 pub record IndexRises (s : Setup) (p : Pusher) (i : ℕ) : Type 0 where
   pub within : s .order ≤ 12 → i ≡ (p .ib .get + 1) % 2 ^ s .order
   pub over : 12 < s .order → i ≡ (p .ib .get + 1) % 2 ^ 12
 
--- the entry e, which is not past the lent ones, is read, and ib_get rises to i
+-- E2, E3: the entry e, which is not past the lent ones, is read, and ib_get rises to i
 pub record EntryRead (s : Setup) (p : Pusher) (l : PusherLoan) (e i : ℕ) : Type 0 where
   pub next : EntryNext s p
   pub lent : p .ib .get < length (l .entries)
   pub entry : e ≡ getD (l .entries) (p .ib .get) 0
   pub rises : IndexRises s p i
 
--- "address bits 39-2", "size in words bits 63-42", "NOT_MAIN bit 41" of an entry
+-- E1: address and size of an entry
 abbrev pub addressIn : ℕ → ℕ
 addressIn e = e / 2 ^ 2 % 2 ^ 38 * 4
 
 abbrev pub sizeIn : ℕ → ℕ
 sizeIn e = e / 2 ^ 42 % 2 ^ 22
 
--- the pushbuffer that the entry e describes: "Put is address plus 4 times size modulo 2^40."
+-- E5, E6: the pushbuffer that the entry e describes, with what becomes of NOT_MAIN and dma_mget
 abbrev pub atEntry : Pusher → ℕ → Bool → ℕ → Pusher
 atEntry p e nonmain mget =
     withMain (withPut (withGet p (addressIn e)) ((addressIn e + 4 * sizeIn e) % 2 ^ 40)) (record { nonmain = nonmain; mget = mget; valid = p .main .valid })
@@ -138,18 +137,18 @@ pub record Leaves (q : Pusher) (k : ℕ) (said : List ℕ) (r : Pushed) : Type 0
   pub pusher : r .pusher ≡ q
   pub did : Tells (r .did) k said
 
--- it says one kind alone; discards a method, or hands it to the puller: its subchannel, byte number and parameter
+-- S29: it says one kind alone; discards a method, or hands it to the puller: its subchannel, byte number and parameter
 abbrev pub Says : Pusher → Kind → Pushed → Type 0
 Says q k r = Leaves q 1 (event.number k ∷ []) r
 
+-- S29: a discarded method, with its parameter as it was read
 abbrev pub Discards : Pusher → ℕ → ℕ → ℕ → Pushed → Type 0
 Discards q b m w r = Leaves q 1 (event.number kind.Discard ∷ b ∷ m ∷ w ∷ []) r
 
 abbrev pub HandsOver : Pusher → ℕ → ℕ → ℕ → Pushed → Type 0
 HandsOver q b m w r = Leaves q 2 (b ∷ m ∷ w ∷ []) r
 
--- q is p stopped by the error with the number n: "1 CALL, 2 NON_CACHE, 3 RETURN, 4 RESERVED_CMD, 5 IB, 6 PROTECTION", all else as
--- before
+-- S26, S27: q is p stopped by the error with the number n, all else as before
 pub record Failed (p : Pusher) (n : ℕ) (q : Pusher) : Type 0 where
   pub get : q .get ≡ p .get
   pub put : q .put ≡ p .put
@@ -160,16 +159,16 @@ pub record Failed (p : Pusher) (n : ℕ) (q : Pusher) : Type 0 where
   pub sli : q .sli ≡ p .sli
   pub error : number (q .error) ≡ n
 
--- the move r leaves p so stopped, and says error alone
+-- S27: the move r leaves p so stopped, and says error alone
 pub record Fails (p : Pusher) (n : ℕ) (r : Pushed) : Type 0 where
   pub pusher : Failed p n (r .pusher)
   pub did : Tells (r .did) 1 (event.number kind.Error ∷ [])
 
--- The sentences, of any relation R between what a move is given and what it leaves: what changes, and nothing else does.
+-- The rules as sentences, of any relation R between what a move is given and what it leaves: what changes, and nothing else does (S13).
 pub record Sentences (R : Setup → Pusher → PusherLoan → Pushed → Type 0) : Type 0 where
-  -- "Stopped by an error: answers stopped, nothing changes."
+  -- S4: stopped, and nothing changes
   pub stopped : (s : Setup) (p : Pusher) (l : PusherLoan) (r : Pushed) → R s p l r → (Running p → ⊥) → Says p kind.Stopped r
-  -- "Idle."
+  -- S8: idle, and nothing changes
   pub idle :
       (s : Setup) (p : Pusher) (l : PusherLoan) (r : Pushed)
       → R s p l r
@@ -177,7 +176,7 @@ pub record Sentences (R : Setup → Pusher → PusherLoan → Pushed → Type 0)
       → p .get ≡ p .put
       → ((InIb s → ⊥) ⊎ (p .ib .get ≡ p .ib .put))
       → Says p kind.Idle r
-  -- "A word at address g faults with PROTECTION if g is above dma_limit, in either mode, or beyond the lent words; g stays."
+  -- S10: PROTECTION, where the read address stays
   pub protection :
       (s : Setup) (p : Pusher) (l : PusherLoan) (r : Pushed)
       → R s p l r
@@ -185,7 +184,7 @@ pub record Sentences (R : Setup → Pusher → PusherLoan → Pushed → Type 0)
       → (p .get ≡ p .put → ⊥)
       → ((s .limit < p .get) ⊎ (length (l .words) ≤ p .get / 4))
       → Fails p 6 r
-  -- "the low 24 bits of the next word are the count"
+  -- S15: the word becomes the count
   pub count :
       (s : Setup) (p q : Pusher) (l : PusherLoan) (w : ℕ) (r : Pushed)
       → R s p l r
@@ -193,14 +192,14 @@ pub record Sentences (R : Setup → Pusher → PusherLoan → Pushed → Type 0)
       → IsWord p l w
       → Past s p q
       → Says (withRun q (withAwaited (withCount (p .run) (w % 2 ^ 24)) false)) kind.Count r
-  -- "A method below 0x100 that the level lacks is NON_CACHE, tested before SLI discard."
+  -- S24: NON_CACHE, whatever SLI says; count and method stay
   pub non-cache :
       (s : Setup) (p q : Pusher) (l : PusherLoan) (w : ℕ) (r : Pushed)
       → R s p l r
       → ParameterRead s p q l w
       → Presents (s .setting .level) (p .run .method) false
       → Fails q 2 r
-  -- "If SLI is enabled and not active, the method is discarded"
+  -- S24, S25: the method is discarded, and the run goes on
   pub discard :
       (s : Setup) (p q : Pusher) (l : PusherLoan) (w n : ℕ) (r : Pushed)
       → R s p l r
@@ -210,7 +209,7 @@ pub record Sentences (R : Setup → Pusher → PusherLoan → Pushed → Type 0)
       → s .setting .sli ≡ true
       → p .sli .active ≡ false
       → Discards (withRun q (lessOne (p .run) n)) (p .run .subchannel) (4 * p .run .method) w r
-  -- "Each parameter submits its method": "else the puller takes it in the same step"
+  -- S24, S25: it is handed to the puller
   pub submit :
       (s : Setup) (p q : Pusher) (l : PusherLoan) (w n : ℕ) (r : Pushed)
       → R s p l r
@@ -219,97 +218,97 @@ pub record Sentences (R : Setup → Pusher → PusherLoan → Pushed → Type 0)
       → Presents (s .setting .level) (p .run .method) true
       → ((s .setting .sli ≡ false) ⊎ (p .sli .active ≡ true))
       → HandsOver (withRun q (lessOne (p .run) n)) (p .run .subchannel) (4 * p .run .method) w r
-  -- "A command with count 0 does nothing."
+  -- S17: a run with count 0
   pub nothing :
       (s : Setup) (p q : Pusher) (l : PusherLoan) (k b m : ℕ) (r : Pushed)
       → R s p l r
       → CommandRead s p q l k (0 ∷ b ∷ m ∷ [])
       → ((k ≡ 1) ⊎ (k ≡ 2))
       → Says q kind.Command r
-  -- "increasing. Count ..., subchannel ..., method"
+  -- S16: a run is open, with a method that rises
   pub increasing :
       (s : Setup) (p q : Pusher) (l : PusherLoan) (c b n : ℕ) (r : Pushed)
       → R s p l r
       → CommandRead s p q l 1 (c ∷ b ∷ 4 * n ∷ [])
       → (c ≡ 0 → ⊥)
       → Says (withRun q (record { count = c; method = n; subchannel = b; increasing = true; awaited = false })) kind.Command r
+  -- S16: and with one that stays
   pub non-increasing :
       (s : Setup) (p q : Pusher) (l : PusherLoan) (c b n : ℕ) (r : Pushed)
       → R s p l r
       → CommandRead s p q l 2 (c ∷ b ∷ 4 * n ∷ [])
       → (c ≡ 0 → ⊥)
       → Says (withRun q (record { count = c; method = n; subchannel = b; increasing = false; awaited = false })) kind.Command r
-  -- "long non-increasing", which then waits for its count
+  -- S18: a long form waits for its count
   pub long :
       (s : Setup) (p q : Pusher) (l : PusherLoan) (b n c : ℕ) (r : Pushed)
       → R s p l r
       → CommandRead s p q l 5 (b ∷ 4 * n ∷ c ∷ [])
       → Says (withRun q (record { count = 0; method = n; subchannel = b; increasing = false; awaited = true })) kind.Command r
-  -- "An SLI conditional sets sli_active exactly if its mask and the channel's share a set bit, else clears it."
+  -- S19: whether the masks share a bit
   pub sli :
       (s : Setup) (p q : Pusher) (l : PusherLoan) (mask : ℕ) (active : Bool) (r : Pushed)
       → R s p l r
       → CommandRead s p q l 3 (mask ∷ [])
       → active ≡ true ↔ Share mask (p .sli .mask)
       → Says (withActive q active) kind.Command r
-  -- "Jump, call and return are as in document 004": "jump [sets dma_get to param]",
+  -- S20: a jump goes to its target
   pub jump :
       (s : Setup) (p q : Pusher) (l : PusherLoan) (k t : ℕ) (r : Pushed)
       → R s p l r
       → CommandRead s p q l k (t ∷ [])
       → ((k ≡ 6) ⊎ (k ≡ 7))
       → Says (withGet q t) kind.Command r
-  -- "call [copies dma_get to subr_return, sets subr_active and sets dma_get to param]": the address past the call's word;
+  -- S21: a call too, and keeps the address behind its word
   pub call :
       (s : Setup) (p q : Pusher) (l : PusherLoan) (t : ℕ) (r : Pushed)
       → R s p l r
       → CommandRead s p q l 8 (t ∷ [])
       → p .subroutine .active ≡ false
       → Says (withGet (withSubroutine q true ((p .get + 4) % 2 ^ 32)) t) kind.Command r
-  -- "1 CALL: call command while subroutine active". "Errors 1 to 4 leave the read address past the word, dma_mget following it
-  -- by the rule below, all else as before."
+  -- S21, S28: CALL, past the word
   pub call-inside :
       (s : Setup) (p q : Pusher) (l : PusherLoan) (t : ℕ) (r : Pushed)
       → R s p l r
       → CommandRead s p q l 8 (t ∷ [])
       → p .subroutine .active ≡ true
       → Fails q 1 r
-  -- "return [unsets subr_active, copies subr_return to dma_get]";
+  -- S22: a return goes there
   pub return :
       (s : Setup) (p q : Pusher) (l : PusherLoan) (r : Pushed)
       → R s p l r
       → CommandRead s p q l 4 []
       → p .subroutine .active ≡ true
       → Says (withGet (withSubroutine q false (p .subroutine .back)) (p .subroutine .back)) kind.Command r
-  -- "3 RETURN: return command while subroutine inactive"
+  -- S22, S28: RETURN, past the word
   pub return-outside :
       (s : Setup) (p q : Pusher) (l : PusherLoan) (r : Pushed)
       → R s p l r
       → CommandRead s p q l 4 []
       → p .subroutine .active ≡ false
       → Fails q 3 r
-  -- "4 RESERVED_CMD": reserved, number 9, and the reading at a setting that is refused, number 10
+  -- S23: RESERVED_CMD: of a reserved word, number 9, and of a reading at a setting that is refused, number 10
   pub reserved :
       (s : Setup) (p q : Pusher) (l : PusherLoan) (k : ℕ) (ns : List ℕ) (r : Pushed)
       → R s p l r
       → CommandRead s p q l k ns
       → 9 ≤ k
       → Fails q 4 r
-  -- "An index past the lent entries is PROTECTION and ib_get stays."
+  -- E2: PROTECTION, where ib_get stays
   pub no-entry :
       (s : Setup) (p : Pusher) (l : PusherLoan) (r : Pushed)
       → R s p l r
       → EntryNext s p
       → length (l .entries) ≤ p .ib .get
       → Fails p 6 r
-  -- "Size 0: error IB after that rise, nothing else changes."
+  -- E4: size 0, with ib_get risen
   pub empty-entry :
       (s : Setup) (p : Pusher) (l : PusherLoan) (e i : ℕ) (r : Pushed)
       → R s p l r
       → EntryRead s p l e i
       → sizeIn e ≡ 0
       → Fails (withIb p i (p .ib .put)) 5 r
-  -- "Put is address plus 4 times size modulo 2^40."
+  -- E5, E6, E7: an entry outside the main pushbuffer
   pub entry-not-main :
       (s : Setup) (p : Pusher) (l : PusherLoan) (e i : ℕ) (r : Pushed)
       → R s p l r
@@ -317,7 +316,7 @@ pub record Sentences (R : Setup → Pusher → PusherLoan → Pushed → Type 0)
       → (sizeIn e ≡ 0 → ⊥)
       → e / 2 ^ 41 % 2 ≡ 1
       → Says (atEntry (withIb p i (p .ib .put)) e true (p .main .mget)) kind.Entry r
-  -- "When NOT_MAIN is clear, dma_mget takes the address"
+  -- E5, E6, E7: and one in it, whose address dma_mget takes
   pub entry-main :
       (s : Setup) (p : Pusher) (l : PusherLoan) (e i : ℕ) (r : Pushed)
       → R s p l r
@@ -341,7 +340,7 @@ NoOther =
 
 -- What a move leaves of a running pusher where it leaves an error: no more changes than the advance of that move.
 pub record Failing : Type 0 where
-  -- "Errors 1 to 4 leave the read address past the word, dma_mget following it by the rule below, all else as before."
+  -- S28: errors 1 to 4 leave the advance
   pub word :
       (s : Setup) (p q : Pusher) (l : PusherLoan) (r : Pushed)
       → Moves s p l r
@@ -350,7 +349,7 @@ pub record Failing : Type 0 where
       → number (r .pusher .error) ≤ 4
       → Past s p q
       → Fails q (number (r .pusher .error)) r
-  -- "Size 0: error IB after that rise, nothing else changes."
+  -- S28: error 5 leaves the risen ib_get
   pub entry :
       (s : Setup) (p : Pusher) (l : PusherLoan) (i : ℕ) (r : Pushed)
       → Moves s p l r
@@ -358,14 +357,14 @@ pub record Failing : Type 0 where
       → number (r .pusher .error) ≡ 5
       → IndexRises s p i
       → Fails (withIb p i (p .ib .put)) 5 r
-  -- PROTECTION: "g stays", and "ib_get stays"
+  -- S28: error 6 leaves nothing
   pub protection : (s : Setup) (p : Pusher) (l : PusherLoan) (r : Pushed) → Moves s p l r → Running p → number (r .pusher .error) ≡ 6 → Fails p 6 r
 
--- "Pusher errors: 1 CALL, 2 NON_CACHE, 3 RETURN, 4 RESERVED_CMD, 5 IB, 6 PROTECTION", 0 for none. "Stopped by an error": `stopped`
--- says so of each, and of none it does not.
+-- S26: the errors in order, after none.
 abbrev pub errorList : List (Option PusherError)
 errorList = map some (cause.None ∷ cause.Call ∷ cause.NonCache ∷ cause.Return ∷ cause.ReservedCmd ∷ cause.Ib ∷ cause.Protection ∷ [])
 
+-- S26, S4: every error stands there, by its number; and `stopped` says so of each, and of none it does not
 pub record Errors : Type 0 where
   pub numbers : StandsIn errorList number
   pub stopped : (p : Pusher) (a : Bool) → Halts p a → a ≡ true ↔ (Running p → ⊥)
@@ -397,6 +396,6 @@ pub record One : Type 0 where
   pub number : (e : PusherError) (a b : ℕ) → Numbers e a → Numbers e b → a ≡ b
   pub stopped : (p : Pusher) (a b : Bool) → Halts p a → Halts p b → a ≡ b
 
--- "Entry 0x00000e0000001000: address 0x1000, size 3, NOT_MAIN."
+-- E1: an entry to try.
 abbrev pub EntryNumbers : Type 0
 EntryNumbers = entryOf 0x00000e0000001000 ≡ record { address = 0x1000; size = 3; nonmain = true }

@@ -8,7 +8,7 @@ use Rattle.pusher.specs.declared.record.Run.{Run}
 use Rattle.pusher.specs.declared.record.Main.{Main}
 use Rattle.pusher.specs.declared.record.Pusher.{Pusher}
 
--- "Pusher errors: 1 CALL, 2 NON_CACHE, 3 RETURN, 4 RESERVED_CMD, 5 IB, 6 PROTECTION"; 0 is none
+-- S26: the errors' numbers; 0 is none
 unfoldable pub number : PusherError → ℕ
 number cause.None = 0
 number cause.Call = 1
@@ -18,13 +18,15 @@ number cause.ReservedCmd = 4
 number cause.Ib = 5
 number cause.Protection = 6
 
--- "Stopped by an error"
+-- S4, S27: an error stops the pusher
 unfoldable pub halts : PusherError → Bool
 halts e = not (eqb (number e) 0)
 
+-- S27: the error is stored, and nothing else with it
 abbrev pub withError : Pusher → PusherError → Pusher
 withError p e = record { get = p .get; put = p .put; run = p .run; subroutine = p .subroutine; ib = p .ib; main = p .main; sli = p .sli; error = e }
 
+-- the record, or its run, with another number or flag and all else as it was
 abbrev pub withGet : Pusher → ℕ → Pusher
 withGet p a = record { get = a; put = p .put; run = p .run; subroutine = p .subroutine; ib = p .ib; main = p .main; sli = p .sli; error = p .error }
 

@@ -14,7 +14,7 @@ use Rattle.pusher.specs.declared.record.Pusher.{Pusher}
 use Rattle.pusher.specs.declared.moving.Did.{Did}
 use Rattle.pusher.specs.declared.moving.Pushed.{Pushed}
 
--- "a combination that 1 to 4 refuse"; "In NV04-style ib_order is held as 0, else 13"
+-- R34: a set-up that opening could have made; and the limit's width
 pub record SetUp (s : Setup) : Type 0 where
   pub level : s .setting .level .number ≤ 5
   pub mode : s .setting .mode .number ≤ 1
@@ -24,25 +24,25 @@ pub record SetUp (s : Setup) : Type 0 where
   pub held : s .setting .mode .number ≡ 0 → s .order ≡ 0
   pub limit : s .limit < 2 ^ 32
 
--- "read, put and dma_mget 32 bits in NV04-style, 40 in IB"
+-- R32: an address has 32 bits in NV04-style, 40 in IB mode
 pub record Narrow (s : Setup) (address : ℕ) : Type 0 where
   pub nv04-style : s .setting .mode .number ≡ 0 → address < 2 ^ 32
   pub ib : s .setting .mode .number ≡ 1 → address < 2 ^ 40
 
--- "a read, put or return address not a multiple of 4"; the return address has 32 bits
+-- R32, R33: the addresses are within their widths, and three of them multiples of 4
 pub record Addresses (s : Setup) (get-is put-is mget-is back-is : ℕ) : Type 0 where
   pub get : Narrow s get-is × (get-is % 4 ≡ 0)
   pub put : Narrow s put-is × (put-is % 4 ≡ 0)
   pub mget : Narrow s mget-is
   pub back : (back-is < 2 ^ 32) × (back-is % 4 ≡ 0)
 
--- "count 24 bits, ... method number 11, ... subchannel 3"
+-- R32: the run under way
 pub record RunFits (r : Run) : Type 0 where
   pub count : r .count < 2 ^ 24
   pub method : r .method < 2 ^ 11
   pub subchannel : r .subchannel < 2 ^ 3
 
--- "ib_get and ib_put below 2^ib_order", "SLI mask 12"
+-- R32: the pusher's numbers, with the indices into the ring and the SLI mask
 pub record PusherFields (s : Setup) (get put mget back ib-get-is ib-put-is : ℕ) (run-is : Run) (mask-is : ℕ) : Type 0 where
   pub addresses : Addresses s get put mget back
   pub ib-get : ib-get-is < 2 ^ s .order
@@ -58,7 +58,7 @@ PusherFits s p = PusherFields s (p .get) (p .put) (p .main .mget) (p .subroutine
 abbrev pub DidFits : Did → Type 0
 DidFits d = (b m w : ℕ) → Tells d 2 (b ∷ m ∷ w ∷ []) → (b < 8) × (w < 2 ^ 32)
 
--- Of a pusher whose numbers fit, on no more words than a step takes, a move leaves one whose numbers fit.
+-- S31: of a pusher whose numbers fit, on no more words than a step takes, a move leaves one whose numbers fit.
 abbrev pub KeepsWidths : Type 0
 KeepsWidths =
     (s : Setup) (p : Pusher) (l : PusherLoan) (r : Pushed)

@@ -91,7 +91,7 @@ fn word(setup: Setup, pusher: Pusher, words: &[u32]) -> Pushed
     command(setup, next, word)
 }
 
-// The read address past the word; in IB mode dma_mget follows it where the words are main.
+// The advance (S11); in IB mode dma_mget follows it where the words are main (S12).
 fn advance(setup: Setup, pusher: Pusher) -> Pusher
     requires { ⌜ pusher .get ≤ 0xffffffff ⌝ }
     ensures { λ r. ⌜ r ≡ advanced setup pusher ⌝ }
@@ -122,7 +122,7 @@ fn count(pusher: Pusher, word: u32) -> Pushed
     quiet(next, Kind::Count)
 }
 
-// A parameter: submits its method, or discards it where SLI is enabled and not active. NON_CACHE
+// A parameter: submits its method, or discards it where SLI says that it is not for this card. NON_CACHE
 // comes before that, and uses up neither count nor method.
 fn parameter(setup: Setup, pusher: Pusher, word: u32) -> Pushed
     requires { ⌜ 1 ≤ pusher .run .count ⌝ }
@@ -236,7 +236,7 @@ fn begin(pusher: Pusher, count: u32, subchannel: u32, method: u32, increasing: b
     quiet(next, Kind::Command)
 }
 
-// An SLI conditional: active exactly if its mask and the channel's share a set bit.
+// An SLI conditional: what follows is for this card if a bit of its mask is the channel's too.
 fn condition(pusher: Pusher, mask: u32) -> Pushed
     ensures { λ r. ⌜ r ≡ conditional pusher mask ⌝ }
 {

@@ -283,7 +283,7 @@ module _ (x : Submission) (map : List ℕ) (same : length map ≡ size x) where
       go true e = absurd (h (start-plain .0 e))
       go false e = e
 
-  -- "first of all": a byte over 3 is the verdict; where there is none, it is the first of the other two
+  -- G25: a byte over 3 is the verdict; where there is none, it is the first of the other two
   wide-first : (w : ℕ) → lowest (overThree map) (size x) ≡ some w → verdictOf x map ≡ Rejected (record { number = MAP_BYTE }) w
   unfolding verdictOf firstOf placeVerdict
   wide-first w q = rw q

@@ -1,4 +1,4 @@
--- The paper's numbers of the answers, none where there is none, and their values.
+-- The numbers of the answers, reasons and refusals by their own, none where there is none; and their values.
 use Prim.Native.Nat.{ℕ}
 use mathlib.Core.Path.{_≡_}
 use mathlib.Core.List.{List, [], _∷_}

@@ -1,5 +1,5 @@
--- Small submissions, each with the map that is exact: so it is seen that `Complete` speaks of something, and that nothing goes on from
--- a pair that has one of the path rule's reasons.
+-- Small submissions, each with the map that is exact (H5): so it is seen that `Complete` speaks of something, and that nothing goes on
+-- from a pair that has one of the path rule's reasons.
 use Prim.Native.Nat.{ℕ, _-_}
 use mathlib.Core.Bool.{Bool, true, false}
 use mathlib.Core.List.{List, [], _∷_, _++_}
@@ -28,7 +28,7 @@ nothing = replicate 2048 0x00
 abbrev pub byteAlone : ℕ → ℕ → List ℕ
 byteAlone i byte = replicate i 0x00 ++ (byte ∷ replicate (2047 - i) 0x00)
 
--- the paper's case: 0x00040050, 0x00000007, where the list permits 0x50 of subchannel 0 alone
+-- the printed case of docs/CARD.md (T): 0x00040050, 0x00000007, where the list permits 0x50 of subchannel 0 alone
 abbrev pub printed : List ℕ
 printed = 0x50 ∷ 0x00 ∷ 0x04 ∷ 0x00 ∷ 0x07 ∷ 0x00 ∷ 0x00 ∷ 0x00 ∷ []
 
@@ -63,6 +63,7 @@ threeParameters = 0xfc ∷ 0xff ∷ 0x0c ∷ 0x40 ∷ 0x07 ∷ 0x00 ∷ 0x00 ∷
 abbrev pub callPast : List ℕ
 callPast = 0x0e ∷ 0x00 ∷ 0x00 ∷ 0x00 ∷ 0x00 ∷ 0x00 ∷ 0x00 ∷ 0x00 ∷ []
 
+-- H1 to H5: the exact map of each, and that no place is bad, but for the last, of which one is
 pub record Examples : Type 0 where
   pub printed-case : Example 3 false printed (1 ∷ 0 ∷ []) (byteAlone 2 0x10)
   pub with-subroutine : Example 2 false subroutine (1 ∷ 1 ∷ 2 ∷ []) nothing

@@ -21,11 +21,11 @@ use Rattle.rules.specs.declared.judging.Verdict.{Verdict}
 use Rattle.rules.specs.declared.judging.Verdict.the-variants.{Accepted, Rejected, Refused}
 use Rattle.rules.specs.declared.judging.Judgement.{Judgement}
 
--- LENGTH: "words lent as bytes not a multiple of 4, map not one byte a word, or permit list not 2,048 bytes"
+-- R9: the lengths of words, map and list that don't fit
 abbrev pub lengthRefused : ℕ → ℕ → ℕ → Bool
 lengthRefused bytes map list = not (eqb (bytes % 4) 0) || (not (eqb map (bytes / 4)) || not (eqb list 2048))
 
--- "Gatekeeper: 1, 4, 8, 9", with the most words that may be lent
+-- R28, R8: the gatekeeper's order, with the most words that may be lent
 abbrev pub judgeCases : ℕ → ℕ → Bool → List ℕ → List ℕ → List ℕ → List Case
 judgeCases most level sli bytes map list =
     LEVEL when levelRefused level
@@ -34,26 +34,26 @@ judgeCases most level sli bytes map list =
     ∷ LENGTH when lengthRefused (length bytes) (length map) (length list)
     ∷ []
 
--- The verdict: the first of two that is no acceptance
+-- G25: the verdict: the first of two that is no acceptance
 unfoldable pub firstOf : Verdict → Verdict → Verdict
 firstOf Accepted v = v
 firstOf (Rejected r p) v = Rejected r p
 firstOf (Refused n) v = Refused n
 
--- "1 map byte over 3 (lowest place, first of all)"
+-- G1: a byte over 3, at its place
 unfoldable pub placeVerdict : Option ℕ → Verdict
 placeVerdict none = Accepted
 placeVerdict (some p) = Rejected (record { number = MAP_BYTE }) p
 
--- "2 place 0 lacks main"; "No words: accepted."
+-- G2, G30: place 0, if there is a word
 unfoldable pub startVerdict : List ℕ → Verdict
 startVerdict map = choose (not (eqb (length map) 0) && not (marked map 0 main)) (Rejected (record { number = NO_START }) 0) Accepted
 
--- the reason of a pair that the map marks
+-- G25: the reason of a pair that the map marks
 unfoldable pub atMark : Submission → List ℕ → ℕ → Bool → Option ℕ
 atMark x map p s = choose (marked map p s) (reasonAt x map p s) none
 
--- "then places rising, main before subroutine": the pairs are numbered in that order
+-- G25: the pairs are numbered in the order in which they are tried: places rising, main before inside
 abbrev pub placeOf : ℕ → ℕ
 placeOf k = k / 2
 
@@ -72,29 +72,30 @@ unfoldable pub numberedPair : Submission → List ℕ → Option ℕ → FirstRe
 numberedPair x map none = Nothing
 numberedPair x map (some k) = refusedAt (placeOf k in-state stateOf k) (atMark x map (placeOf k) (stateOf k))
 
--- the first pair that is refused
+-- G25: the first pair that is refused
 unfoldable pub firstRefused : Submission → List ℕ → FirstRefused
 firstRefused x map = numberedPair x map (lowest (refusedPair x map) (2 * size x))
 
--- of which the verdict gives the place
+-- G31: of which the verdict gives the place
 unfoldable pub pairVerdict : FirstRefused → Verdict
 pairVerdict Nothing = Accepted
 pairVerdict (At r q) = Rejected r (q .place)
 
+-- G25, G31: map bytes, start, pairs
 unfoldable pub verdictOf : Submission → List ℕ → Verdict
 verdictOf x map =
     firstOf (placeVerdict (lowest (overThree map) (size x)))
     (firstOf (startVerdict map) (pairVerdict (firstRefused x map)))
 
--- "The answer also gives the count of set permit bits, 0 on a refusal from the table above."
+-- G24: a refusal has count 0
 abbrev pub refusing : Refusal → Judgement
 refusing n = record { verdict = Refused n; count = 0 }
 
--- "NV04-style only"
+-- G21: the setting, always NV04-style
 abbrev pub settingOf : ℕ → Bool → Setting
 settingOf level sli = record { level = record { number = level }; mode = record { number = 0 }; sli = sli }
 
--- what is judged where nothing is refused
+-- G24, G31: what is judged where nothing is refused
 abbrev pub judged : ℕ → Bool → List ℕ → List ℕ → List ℕ → Judgement
 judged level sli bytes map list = record { verdict = verdictOf (submission (settingOf level sli) bytes list) map; count = countOf list }
 
@@ -102,6 +103,6 @@ judged level sli bytes map list = record { verdict = verdictOf (submission (sett
 unfoldable pub judgeUpTo : ℕ → ℕ → Bool → List ℕ → List ℕ → List ℕ → Judgement
 judgeUpTo most level sli bytes map list = refusedOr refusing (first (judgeCases most level sli bytes map list)) (judged level sli bytes map list)
 
--- and the gatekeeper's: SIZE is "over 1,048,576 words"
+-- R8: and the gatekeeper's
 abbrev pub judgeOf : ℕ → Bool → List ℕ → List ℕ → List ℕ → Judgement
 judgeOf level sli bytes map list = judgeUpTo 1048576 level sli bytes map list

@@ -15,7 +15,7 @@ main = false
 abbrev pub inside : Bool
 inside = true
 
--- "Map byte: 0 not a start, 1 main, 2 inside a subroutine, 3 both."
+-- G22: the lowest bit is main's, the one above it a subroutine's
 unfoldable pub marked : List ℕ → ℕ → Bool → Bool
 marked map p false = eqb (getD map p 0 % 2) 1
 marked map p true = eqb (getD map p 0 / 2 % 2) 1
@@ -23,6 +23,7 @@ marked map p true = eqb (getD map p 0 / 2 % 2) 1
 unfoldable pub unmarked : List ℕ → Pair → Bool
 unmarked map q = not (marked map (q .place) (q .inside))
 
+-- G1: a byte that has other bits
 unfoldable pub overThree : List ℕ → ℕ → Bool
 overThree map p = ltb 3 (getD map p 0)
 
@@ -30,10 +31,11 @@ overThree map p = ltb 3 (getD map p 0)
 unfoldable pub starts : List ℕ → ℕ → Bool
 starts map p = not (eqb (getD map p 0) 0)
 
--- whether any place of a part of the map is, and whether any of the c places from a on
+-- whether any place of a part of the map is; and whether any of the c places from a on
 unfoldable pub anyStart : List ℕ → Bool
 anyStart part = found? (lowest (starts part) (length part))
 
+-- G9: the places among a command's parameters
 unfoldable pub among : List ℕ → ℕ → ℕ → Bool
 among map a c = found? (lowest (λ k. starts map (a + k)) c)
 

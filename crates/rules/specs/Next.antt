@@ -14,8 +14,7 @@ infix 70 _in-state_
 abbrev pub _in-state_ : ℕ → Bool → Pair
 p in-state s = record { place = p; inside = s }
 
--- "A call is tried for its target (in a subroutine) and then for the word after it (in main). A return has no next pair; a
--- jump's is its target, another's the word after its parameters, in the same state." Targets are byte numbers.
+-- G27: the next pairs, in the order in which they are tried. Targets are byte numbers; what is no command has none.
 unfoldable pub nexts : Reading → ℕ → Bool → List Pair
 nexts (Increasing c b m) p s = placeAfter (Increasing c b m) p in-state s ∷ []
 nexts (NonIncreasing c b m) p s = placeAfter (NonIncreasing c b m) p in-state s ∷ []

@@ -12,14 +12,14 @@ use Rattle.word.specs.declared.reading.Reading.the-variants.{Increasing, NonInc
 use Rattle.rules.specs.Permit.{permits}
 use Rattle.rules.specs.declared.parameters.Methods.{Methods}
 
--- the place after a command's parameters, p being its own
+-- G6, G27: the place behind a command's parameters, p being its own
 abbrev pub placeAfter : Reading → ℕ → ℕ
 placeAfter d p = p + 1 + parameterCount d
 
 abbrev pub noMethods : Methods
 noMethods = record { subchannel = 0; method = 0; increasing = false }
 
--- "subchannel 15-13, method bits 12-2": a method's number is its byte number divided by 4
+-- G29: subchannel and first method; a method's number is its byte number divided by 4
 unfoldable pub methodsOf : Reading → Methods
 methodsOf (Increasing c b m) = record { subchannel = b; method = m / 4; increasing = true }
 methodsOf (NonIncreasing c b m) = record { subchannel = b; method = m / 4; increasing = false }
@@ -32,7 +32,7 @@ methodsOf (Call t) = noMethods
 methodsOf Reserved = noMethods
 methodsOf (Refused r) = noMethods
 
--- "an increasing method then rises by one modulo 2,048": the method of parameter k, from 0
+-- G29: the method of parameter k, from 0
 unfoldable pub methodFor : Methods → ℕ → ℕ
 methodFor ms k = choose (ms .increasing) ((ms .method + k) % 2048) (ms .method)
 
@@ -40,10 +40,10 @@ methodFor ms k = choose (ms .increasing) ((ms .method + k) % 2048) (ms .method)
 unfoldable pub anyFails : (ℕ → Bool) → Methods → ℕ → Bool
 anyFails test ms n = found? (lowest (λ k. not (test (methodFor ms k))) n)
 
--- "A method below 0x100 that the level lacks", of any parameter
+-- G7: any parameter's method that the level lacks
 unfoldable pub lacking : Setting → Reading → Bool
 lacking setting d = anyFails (presentOf (setting .level .number)) (methodsOf d) (parameterCount d)
 
--- a "method not permitted", of any parameter
+-- G8: any parameter's method that is not permitted
 unfoldable pub denied : List ℕ → Reading → Bool
 denied list d = anyFails (permits list (methodsOf d .subchannel)) (methodsOf d) (parameterCount d)

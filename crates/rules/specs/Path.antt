@@ -18,14 +18,15 @@ abbrev pub OneOf : List Pair → ℕ → Bool → Type 0
 OneOf [] q t = ⊥
 OneOf (x ∷ xs) q t = ((q ≡ x .place) × (t ≡ x .inside)) ⊎ OneOf xs q t
 
--- (q, t) is a next pair of the command d at (p, s)
+-- G27: (q, t) is a next pair of the command d at (p, s)
 abbrev pub Next : Reading → ℕ → Bool → ℕ → Bool → Type 0
 Next d p s q t = OneOf (nexts d p s) q t
 
--- "(place 0, main) is reached if there is a word; from a reached pair without reasons 3 to 8, 10 and 12, its next pairs are
--- reached, unless that is the end."
+-- H1, H2: which pairs are reached
 pub data Reached (x : Submission) : ℕ → Bool → Type 0 where
+  -- H1: where the words begin
   origin : 0 < size x → Reached x 0 main
+  -- H2: where they go on
   onward :
       {p : ℕ} {s : Bool} {q : ℕ} {t : Bool}
       → Reached x p s
@@ -34,9 +35,11 @@ pub data Reached (x : Submission) : ℕ → Bool → Type 0 where
       → (q ≡ size x → ⊥)
       → Reached x q t
 
--- "A place is bad if a reached pair has one of those reasons or a reached start lies among its parameters."
+-- H3, H4: which places are bad
 pub data Bad (x : Submission) : ℕ → Type 0 where
+  -- H3: a reason of the path rule's
   flawed : {p : ℕ} {s : Bool} → Reached x p s → (flawAt x p s ≡ none → ⊥) → Bad x p
+  -- H4: a reached place among the parameters
   amid :
       {p : ℕ} {s : Bool} {q : ℕ} {t : Bool}
       → Reached x p s
@@ -45,7 +48,7 @@ pub data Bad (x : Submission) : ℕ → Type 0 where
       → q ≤ p + parameterCount (commandAt x p)
       → Bad x p
 
--- "the map that marks exactly the reached places": a byte a word, 1 if reached in main, plus 2 if reached inside a subroutine
+-- H5: the map that marks exactly what is reached
 pub record Exact (x : Submission) (map : List ℕ) : Type 0 where
   pub bytes : length map ≡ size x
   pub narrow : (p : ℕ) → p < size x → getD map p 0 ≤ 3

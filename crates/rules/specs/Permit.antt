@@ -6,15 +6,15 @@ use lib.Count.{ones}
 use lib.Dec.{eqb}
 use lib.ListN.{getD}
 
--- "Permit list: bit (m mod 8) of byte 256 times subchannel plus m/8, m the method divided by 4."
+-- G23: whether the bit of a method is set, given by its subchannel and its number m
 unfoldable pub permits : List ℕ → ℕ → ℕ → Bool
 permits list subchannel m = eqb (getD list (256 * subchannel + m / 8) 0 / 2 ^ (m % 8) % 2) 1
 
--- "ones counted for each permit byte and summed": over the first n bytes,
+-- G24: the set bits of each byte, summed over the first n bytes,
 unfoldable pub setBits : List ℕ → ℕ → ℕ
 setBits list zero = 0
 setBits list (suc n) = setBits list n + ones (getD list n 0)
 
--- "over the 2,048 bytes"
+-- G24: and over all of them
 unfoldable pub countOf : List ℕ → ℕ
 countOf list = setBits list 2048

@@ -45,8 +45,7 @@ use Rattle.rules.specs.declared.judging.Judgement.{Judgement}
 abbrev pub Bytes : List ℕ → Type 0
 Bytes l = (i : ℕ) → getD l i 0 < 2 ^ 8
 
--- "Permit list: bit (m mod 8) of byte 256 times subchannel plus m/8, m the method divided by 4." A method is permitted where that
--- bit is set.
+-- G23: the bit of a method, by subchannel and number; where it is set, the method is permitted.
 abbrev pub permitBit : List ℕ → ℕ → ℕ → ℕ
 permitBit list subchannel m = getD list (256 * subchannel + m / 8) 0 / 2 ^ (m % 8) % 2
 
@@ -55,8 +54,7 @@ Permitted list subchannel m = permitBit list subchannel m ≡ 1
 
 -- Promise 1.
 
--- "Gatekeeper: 1, 4, 8, 9", in plain terms: LEVEL "level above 5", SLI "SLI enabled below level 3", SIZE "pushbuffer ... over" so
--- many words, LENGTH "words lent as bytes not a multiple of 4, map not one byte a word, or permit list not 2,048 bytes"
+-- R28: the gatekeeper's order, in plain terms. R1, R4, R8, R9
 abbrev pub judgePlain : ℕ → ℕ → Bool → List ℕ → List ℕ → List ℕ → List PlainCase
 judgePlain most level sli bytes map list =
     1 if (5 < level)
@@ -65,8 +63,8 @@ judgePlain most level sli bytes map list =
     ∷ 9 if ((length bytes % 4 ≡ 0 → ⊥) ⊎ ((length map ≡ length bytes / 4 → ⊥) ⊎ (length list ≡ 2048 → ⊥)))
     ∷ []
 
--- A refusal is given exactly when the table says: the answer is refusal n if and only if n's condition holds and none before it
--- in the paper's order does; and then there is no reason, and the count is 0.
+-- R21, R28: a refusal is given exactly when the table says: the answer is refusal n if and only if n's condition holds and none before
+-- it in the order does; and then there is no reason, and the count is 0 (G24).
 pub record Refused : Type 0 where
   pub exactly :
       (level : ℕ) (sli : Bool) (bytes map list : List ℕ) (r : Judgement)
@@ -106,7 +104,7 @@ sum f (suc n) = sum f n + f n
 abbrev pub permittedPairs : List ℕ → ℕ
 permittedPairs list = sum (λ subchannel. sum (permitBit list subchannel) 2048) 8
 
--- "The answer also gives the count of set permit bits": it is the number of permitted methods.
+-- G24: the count of the answer is the number of permitted methods.
 abbrev pub Counted : Type 0
 Counted =
     (level : ℕ) (sli : Bool) (bytes map list : List ℕ) (r : Judgement)
@@ -117,7 +115,7 @@ Counted =
 
 -- Promise 3, its first half. Of the pusher's moves alone, with whatever the puller does in between:
 
--- neither a command nor a subroutine is open
+-- G37: neither a command nor a subroutine is open
 pub record Closed (p : Pusher) : Type 0 where
   pub count : p .run .count ≡ 0
   pub awaited : p .run .awaited ≡ false
@@ -125,9 +123,9 @@ pub record Closed (p : Pusher) : Type 0 where
 
 -- what holds of a pusher at any time
 pub record SafePusher (s : Setup) (ws list : List ℕ) (p : Pusher) : Type 0 where
-  -- "never raises a pusher error"
+  -- G34: no error
   pub no-error : pusher-record.number (p .error) ≡ 0
-  -- "submits only permitted methods"
+  -- G35: what a move submits is permitted
   pub permitted :
       (l : PusherLoan) (x : Pushed) (m : Method)
       → l .words ≡ ws
@@ -136,19 +134,20 @@ pub record SafePusher (s : Setup) (ws list : List ℕ) (p : Pusher) : Type 0 whe
       → Permitted list (m .subchannel) (m .method / 4)
   -- so too by the word: one that is read as a parameter goes to a permitted method
   pub parameter : (l : PusherLoan) → l .words ≡ ws → pusher.ReadsParameter s p l → Permitted list (p .run .subchannel) (p .run .method)
-  -- "when its read address reaches put has no command or subroutine open"
+  -- G37: at put nothing is open
   pub closed : p .get ≡ p .put → Closed p
 
 -- a pusher before its first move, at a set-up in NV04-style, with put at the end of the words
 pub record FreshPusher (level : ℕ) (sli : Bool) (ws : List ℕ) (s : Setup) (p : Pusher) : Type 0 where
   pub setting : s .setting ≡ settingOf level sli
-  -- "the limit not below the last one"
+  -- G33: every word is within the limit
   pub limit : (i : ℕ) → i < length ws → 4 * i ≤ s .limit
   pub get : p .get ≡ 0
   pub put : p .put ≡ 4 * length ws
   pub closed : Closed p
   pub no-error : pusher-record.number (p .error) ≡ 0
 
+-- G33: what acceptance means for the pusher by itself
 abbrev pub SoundMoves : Type 0
 SoundMoves =
     (level : ℕ) (sli : Bool) (bytes map list : List ℕ) (r : Judgement)
@@ -157,7 +156,7 @@ SoundMoves =
     → (s : Setup) (p : Pusher)
     → FreshPusher level sli (wordsOf bytes) s p
     → ((q : Pusher) → Moved s (wordsOf bytes) p q → SafePusher s (wordsOf bytes) list q)
-    -- "reads no word both as command and as parameter": whatever moves led to either reading
+    -- G36: no word is read both ways, whatever moves led to either reading
     × ((q t : Pusher) (k l : PusherLoan)
     → k .words ≡ wordsOf bytes
     → l .words ≡ wordsOf bytes
@@ -170,9 +169,8 @@ SoundMoves =
 
 -- And of the channel, by its own opening, put and steps.
 
--- "a fresh NV04-style channel of the same level and SLI setting, put set once, at the end of those unchanged words, and the limit not
--- below the last one", with any SLI mask and any object table that can be opened; that the words are unchanged is said where steps
--- are made
+-- G33: the channel that acceptance speaks of, before its first step, with any SLI mask and any object table that can be opened; that the
+-- words stay the same is said where steps are made
 pub record Started (level : ℕ) (sli : Bool) (ws : List ℕ) : Type 0 where
   pub order : ℕ
   pub mask : ℕ
@@ -201,10 +199,10 @@ pub data AfterSteps (ws : List ℕ) (c : Channel) : Channel → Type 0 where
       → e ≡ r .channel
       → AfterSteps ws c e
 
--- what holds of a channel at any time
+-- what holds of a channel at any time. G34: no error
 pub record Safe (ws list : List ℕ) (c : Channel) : Type 0 where
   pub no-pusher-error : pusher-record.number (c .pusher .error) ≡ 0
-  -- no step is refused but for the size of table or semaphore memory
+  -- G38: no step is refused but for the size of table or semaphore memory
   pub taken :
       (l : Loan) (exit : List ℕ) (r : Stepped)
       → l .pusher .words ≡ ws
@@ -212,7 +210,7 @@ pub record Safe (ws list : List ℕ) (c : Channel) : Type 0 where
       → length (l .puller .semaphores) ≤ 1048576
       → StepsTo c l r exit
       → stepRefusal (r .answer) ≡ none
-  -- each method that a step submits, whether delivered, discarded or failing in the puller, is permitted
+  -- G35: each method that a step submits, whether delivered, discarded or failing in the puller, is permitted
   pub permitted :
       (l : PusherLoan) (x : Pushed) (m : Method)
       → l .words ≡ ws
@@ -226,14 +224,15 @@ pub record Safe (ws list : List ℕ) (c : Channel) : Type 0 where
       → StepsTo c l r exit
       → answerValues (r .answer) ≡ k ∷ b ∷ m ∷ n ∷ []
       → Permitted list b (m / 4)
+  -- G37: at put nothing is open
   pub closed : c .pusher .get ≡ c .pusher .put → Closed (c .pusher)
 
 pub record StaysSafe (level : ℕ) (sli : Bool) (ws list : List ℕ) (start : Started level sli ws) : Type 0 where
-  -- opening and put are not refused
+  -- G38: opening and put are not refused
   pub opens : openingRefusal (start .opened .answer) ≡ none
   pub puts : checkRefusal (start .put .answer) ≡ none
   pub safe : (c : Channel) → AfterSteps ws (start .put .channel) c → Safe ws list c
-  -- no word is read both as command and as parameter, by any two steps
+  -- G36: no word is read both as command and as parameter, by any two steps
   pub apart :
       (c d : Channel) (k l : PusherLoan)
       → k .words ≡ ws
@@ -245,6 +244,7 @@ pub record StaysSafe (level : ℕ) (sli : Bool) (ws list : List ℕ) (start : St
       → c .pusher .get / 4 ≡ d .pusher .get / 4
       → ⊥
 
+-- G33: what acceptance means
 abbrev pub Sound : Type 0
 Sound =
     (level : ℕ) (sli : Bool) (bytes map list : List ℕ) (r : Judgement)
@@ -256,7 +256,7 @@ Sound =
 
 -- Promise 3, its second half.
 
--- "where the table refuses neither level, SLI setting nor sizes"; the map's size is said by `Exact`
+-- H6: level, SLI setting and sizes that are not refused; the map's size is said by `Exact`
 pub record Sized (level : ℕ) (sli : Bool) (bytes list : List ℕ) : Type 0 where
   pub level-fits : level ≤ 5
   pub sli-fits : sli ≡ true → 3 ≤ level
@@ -264,8 +264,7 @@ pub record Sized (level : ℕ) (sli : Bool) (bytes list : List ℕ) : Type 0 whe
   pub whole : length bytes % 4 ≡ 0
   pub permit : length list ≡ 2048
 
--- "and no place reached by the paper's path rule is bad, the map that marks exactly the reached places is accepted", with the true
--- count
+-- H6: the exact map of words without a bad place is accepted, with the true count
 abbrev pub Complete : Type 0
 Complete =
     (level : ℕ) (sli : Bool) (bytes map list : List ℕ) (r : Judgement)
@@ -276,11 +275,11 @@ Complete =
     → Exact (submission (settingOf level sli) bytes list) map
     → Accepts (r .verdict) × (r .count ≡ permittedPairs list)
 
--- "the map that marks exactly the reached places" is one map.
+-- H5: the exact map is one map.
 abbrev pub ExactIsOne : Type 0
 ExactIsOne = (x : Submission) (a b : List ℕ) → Exact x a → Exact x b → a ≡ b
 
--- The other way round: accepted words have no bad place, whatever the map.
+-- H7: the other way round: accepted words have no bad place, whatever the map.
 abbrev pub NoneBad : Type 0
 NoneBad =
     (level : ℕ) (sli : Bool) (bytes map list : List ℕ) (r : Judgement)

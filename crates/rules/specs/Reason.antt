@@ -17,7 +17,7 @@ use Rattle.rules.specs.declared.pair.Pair.{Pair}
 use Rattle.rules.specs.declared.reason.Finding.{Finding}
 use Rattle.rules.specs.declared.reason.Finding.the-variants.{Nothing, Against}
 
--- the numbers of the reasons
+-- the reasons' numbers (docs/CARD.md, G)
 abbrev pub MAP_BYTE : ℕ
 MAP_BYTE = 1
 
@@ -54,7 +54,7 @@ NOT_MARKED = 11
 abbrev pub END_INSIDE : ℕ
 END_INSIDE = 12
 
--- What is submitted beside the map: the setting, in NV04-style, the words, and the list of permitted methods.
+-- G21: what is submitted beside the map: the setting, in NV04-style, the words, and the list of permitted methods.
 pub record Submission : Type 0 where
   pub setting : Setting
   pub words : List ℕ
@@ -63,14 +63,14 @@ pub record Submission : Type 0 where
 abbrev pub submission : Setting → List ℕ → List ℕ → Submission
 submission setting bytes list = record { setting = setting; words = wordsOf bytes; permit = list }
 
--- how many words there are, and what the word at a place reads as
+-- G21: how many words there are, and what the word at a place reads as, by itself
 abbrev pub size : Submission → ℕ
 size x = length (x .words)
 
 abbrev pub commandAt : Submission → ℕ → Reading
 commandAt x p = readOf (x .setting) (getD (x .words) p 0) 0
 
--- the forms that have reasons of their own, by their numbers; "NV04-style only": the long form, 5, is no command there
+-- the forms that have reasons of their own, by their numbers. G3: the long form, 5, is no command of NV04-style
 unfoldable pub reserved? : Reading → Bool
 reserved? d = eqb (number d) 5 || leb 9 (number d)
 
@@ -80,8 +80,7 @@ call? d = eqb (number d) 8
 unfoldable pub return? : Reading → Bool
 return? d = eqb (number d) 4
 
--- The reasons of a command d at place p in state s, in the order in which they are tried. Its own: "3 reserved word; 4 call in
--- subroutine; 5 return in main; 6 parameters past the end; 7 NON_CACHE method; 8 method not permitted;"
+-- The reasons of a command d at place p in state s, in the order in which they are tried. G3 to G8: its own.
 abbrev pub ownCases : Submission → Reading → ℕ → Bool → List Case
 ownCases x d p s =
     RESERVED when reserved? d
@@ -92,8 +91,7 @@ ownCases x d p s =
     ∷ NOT_PERMITTED when denied (x .permit) d
     ∷ []
 
--- Of a next pair q, among n words: "10 target past the end; 12 next place is the end, in a subroutine; 11 next place not marked for
--- its state." "The end, one past the last word, needs no mark."
+-- G10, G12, G11, G28: those of a next pair q, of so many words, and whether it lacks its mark.
 abbrev pub arrivalCases : ℕ → Pair → Bool → List Case
 arrivalCases n q lacks =
     TARGET_PAST when ltb n (q .place)
@@ -101,6 +99,7 @@ arrivalCases n q lacks =
     ∷ NOT_MARKED when (not (eqb (q .place) n) && lacks)
     ∷ []
 
+-- G26: of each next pair in turn
 abbrev pub nextCases : (Pair → Bool) → ℕ → List Pair → List Case
 nextCases lacks n [] = []
 nextCases lacks n (q ∷ qs) = arrivalCases n q (lacks q) ++ nextCases lacks n qs
@@ -110,7 +109,7 @@ pub record MapTests : Type 0 where
   pub among : ℕ → ℕ → Bool
   pub lacks : Pair → Bool
 
--- "At one pair they are tried in that order": its own, "9 a marked place among its parameters", and those of its next pairs.
+-- G26, G9: the order at one pair: its own reasons, a marked parameter, and those of its next pairs.
 abbrev pub commandCases : MapTests → Submission → Reading → ℕ → Bool → List Case
 commandCases m x d p s =
     ownCases x d p s
@@ -119,14 +118,14 @@ commandCases m x d p s =
 unfoldable pub firstReason : MapTests → Submission → ℕ → Bool → Option ℕ
 firstReason m x p s = first (commandCases m x (commandAt x p) p s)
 
--- the reason of a pair, by a map;
+-- G26: the reason of a pair, by a map;
 abbrev pub byMap : List ℕ → MapTests
 byMap map = record { among = among map; lacks = unmarked map }
 
 abbrev pub reasonAt : Submission → List ℕ → ℕ → Bool → Option ℕ
 reasonAt x map p s = firstReason (byMap map) x p s
 
--- and by no map, which leaves "reasons 3 to 8, 10 and 12"
+-- H2: and by no map, which leaves the path rule's reasons
 abbrev pub noMap : MapTests
 noMap = record { among = λ a c. false; lacks = λ q. false }
 

@@ -27,9 +27,9 @@ use Rattle.rules.specs.declared.reason.Finding.{Finding}
 use Rattle.rules.specs.declared.judging.FirstRefused.{FirstRefused}
 use Rattle.rules.specs.declared.judging.Judgement.{Judgement}
 
--- What is submitted, as these statements and those of Promises.antt name it.
+-- G21: what is submitted, as these statements and those of Promises.antt name it.
 pub record Submitted : Type 0 where
-  -- "NV04-style only"
+  -- the setting, in NV04-style
   pub setting : (level : ℕ) (sli : Bool) → let s = settingOf level sli in (s .level .number ≡ level) × (s .mode .number ≡ 0) × (s .sli ≡ sli)
   -- setting, words and list are those that are lent; of the words there is one for every four bytes
   pub lent : (s : Setting) (bytes list : List ℕ) → let x = submission s bytes list in (x .setting ≡ s) × (x .words ≡ wordsOf bytes) × (x .permit ≡ list)
@@ -41,41 +41,39 @@ pub record Submitted : Type 0 where
       → Reads s w 0 r
       → commandAt (submission s bytes list) p ≡ r
 
--- "Map byte: 0 not a start, 1 main, 2 inside a subroutine, 3 both": its lowest bit is main's mark, the one above it a subroutine's; so
--- too of a byte over 3, by these two bits.
+-- G22: a byte's lowest bit is main's mark, the one above it a subroutine's; so too of a byte over 3, by these two bits.
 abbrev pub Marks : List ℕ → ℕ → Bool → Type 0
 Marks map p false = getD map p 0 % 2 ≡ 1
 Marks map p true = getD map p 0 / 2 % 2 ≡ 1
 
--- Parameter k of a command, from 0, goes to method n of subchannel b, n being the byte number divided by 4: by the command's number, and
--- by its values, of which c is the count and m the byte number of its method.
+-- G29: parameter k of a command, from 0, goes to method n of subchannel b, n being the byte number divided by 4: by the command's number,
+-- and by its values, of which c is the count and m the byte number of its method.
 pub data GoesTo (d : Reading) (k b n : ℕ) : Type 0 where
-  -- "an increasing method then rises by one modulo 2,048";
+  -- an increasing method rises from parameter to parameter;
   increasing : (c m : ℕ) → reading.number d ≡ 1 → reading.values d ≡ c ∷ b ∷ m ∷ [] → k < c → n ≡ (m / 4 + k) % 2048 → GoesTo d k b n
   -- a non-increasing one stays, and so does the long form's
   non-increasing : (c m : ℕ) → reading.number d ≡ 2 → reading.values d ≡ c ∷ b ∷ m ∷ [] → k < c → n ≡ m / 4 → GoesTo d k b n
   long : (m c : ℕ) → reading.number d ≡ 5 → reading.values d ≡ b ∷ m ∷ c ∷ [] → k < c → n ≡ m / 4 → GoesTo d k b n
 
--- The reasons of a command d at place p in state s. Its own: by its number a return is 4, the long form, none of NV04-style's, 5, a
--- call 8, and a reserved word 9 or more.
+-- G3 to G8: the reasons of a command d at place p in state s that are its own: by its number a return is 4, the long form, none of
+-- NV04-style's, 5, a call 8, and a reserved word 9 or more.
 abbrev pub ownPlain : Submission → Reading → ℕ → Bool → List PlainCase
 ownPlain x d p s =
-    -- "3 reserved word; 4 call in subroutine; 5 return in main;
+    -- reserved, a call inside, a return in main;
     3 if ((reading.number d ≡ 5) ⊎ (9 ≤ reading.number d))
     ∷ 4 if ((reading.number d ≡ 8) × (s ≡ inside))
     ∷ 5 if ((reading.number d ≡ 4) × (s ≡ main))
-    -- 6 parameters past the end; 7 NON_CACHE method; 8 method not permitted"
+    -- parameters past the end, one to a method that the level lacks, one to a method that is not permitted
     ∷ 6 if (size x < p + 1 + parameterCount d)
     ∷ 7 if ((k : ℕ) × (b : ℕ) × (n : ℕ) × GoesTo d k b n × Presents (x .setting .level) n false)
     ∷ 8 if ((k : ℕ) × (b : ℕ) × (n : ℕ) × GoesTo d k b n × (Permitted (x .permit) b n → ⊥))
     ∷ []
 
--- "9 a marked place among its parameters", of which there are c
+-- G9: of its c parameters one stands at a marked place
 abbrev pub AmongPlain : List ℕ → ℕ → ℕ → Type 0
 AmongPlain map p c = (k : ℕ) × (k < c) × (getD map (p + 1 + k) 0 ≡ 0 → ⊥)
 
--- "10 target past the end; 12 next place is the end, in a subroutine; 11 next place not marked for its state." "The end, one past
--- the last word, needs no mark."
+-- G10, G12, G11, G28: of a next pair: past the end; the end, inside; not the end, and without its mark.
 abbrev pub arrivalPlain : ℕ → Pair → Type 0 → List PlainCase
 arrivalPlain n q Lacks =
     10 if (n < q .place)
@@ -87,6 +85,7 @@ abbrev pub nextPlain : Submission → List ℕ → List Pair → List PlainCase
 nextPlain x map [] = []
 nextPlain x map (q ∷ qs) = arrivalPlain (size x) q (Marks map (q .place) (q .inside) → ⊥) ++ nextPlain x map qs
 
+-- G26: the order at one pair
 abbrev pub commandPlain : Submission → List ℕ → Reading → ℕ → Bool → List PlainCase
 commandPlain x map d p s =
     ownPlain x d p s
@@ -95,7 +94,7 @@ commandPlain x map d p s =
 abbrev pub pairPlain : Submission → List ℕ → ℕ → Bool → List PlainCase
 pairPlain x map p s = commandPlain x map (commandAt x p) p s
 
--- "1 map byte over 3 (lowest place, first of all)"
+-- G1: the lowest place whose byte is over 3
 pub record WideByte (x : Submission) (map : List ℕ) (p : ℕ) : Type 0 where
   pub within : p < size x
   pub wide : 3 < getD map p 0
@@ -105,28 +104,29 @@ pub record WideByte (x : Submission) (map : List ℕ) (p : ℕ) : Type 0 where
 abbrev pub NoneWide : List ℕ → Type 0
 NoneWide map = (q : ℕ) → getD map q 0 ≤ 3
 
--- "2 place 0 lacks main"; "No words: accepted."
+-- G2, G30: there is a word, and place 0 lacks main's mark
 abbrev pub NoStart : Submission → List ℕ → Type 0
 NoStart x map = (0 < size x) × (Marks map 0 main → ⊥)
 
--- "then places rising, main before subroutine"
+-- G25: places rising, main before inside
 abbrev pub Earlier : ℕ → Bool → ℕ → Bool → Type 0
 Earlier q t p s = (q < p) ⊎ ((q ≡ p) × (t ≡ main) × (s ≡ inside))
 
+-- G25: the first marked pair that has a reason
 pub record FirstPair (x : Submission) (map : List ℕ) (n p : ℕ) (s : Bool) : Type 0 where
   pub within : p < size x
   pub marked : Marks map p s
-  -- "At one pair they are tried in that order."
+  -- G26: the first of its reasons
   pub reason : FirstIs (pairPlain x map p s) n
   pub before : (q : ℕ) (t : Bool) → Earlier q t p s → Marks map q t → (m : ℕ) → FirstIs (pairPlain x map q t) m → ⊥
 
--- reason n at place p
+-- G25: reason n at place p
 abbrev pub Against : Submission → List ℕ → ℕ → ℕ → Type 0
 Against x map n p =
     ((n ≡ 1) × WideByte x map p)
     ⊎ (NoneWide map × (((n ≡ 2) × (p ≡ 0) × NoStart x map) ⊎ ((NoStart x map → ⊥) × ((s : Bool) × FirstPair x map n p s))))
 
--- A judgement that is made gives a reason and a place exactly where the paper does; so it accepts where there is none.
+-- G31: a judgement that is made gives a reason and a place exactly where the rules do; so it accepts where there is none.
 abbrev pub Reasons : Type 0
 Reasons =
     (level : ℕ) (sli : Bool) (bytes map list : List ℕ) (r : Judgement)
@@ -147,16 +147,16 @@ FirstPairs =
     → ((refusedNumber r ≡ some n) × (refusedPairIn r ≡ some (p in-state s)))
     ↔ FirstPair (submission setting bytes list) map n p s
 
--- Where the words go on after a command, by its number and its values.
+-- G27: where the words go on after a command, by its number and its values.
 pub record NextsPlain (d : Reading) (p : ℕ) (s : Bool) (qs : List Pair) : Type 0 where
-  -- "another's the word after its parameters, in the same state"
+  -- behind its parameters
   pub other : reading.number d ≤ 3 → qs ≡ (p + 1 + parameterCount d) in-state s ∷ []
-  -- "A return has no next pair"; nor has the long form, nor a reserved word
+  -- nowhere after a return; nor after the long form, or a reserved word
   pub return : 4 ≤ reading.number d → reading.number d ≤ 5 → qs ≡ []
   pub reserved : 9 ≤ reading.number d → qs ≡ []
-  -- "a jump's is its target", by a byte number
+  -- at a jump's target, which is a byte number
   pub jump : (t : ℕ) → 6 ≤ reading.number d → reading.number d ≤ 7 → reading.values d ≡ t ∷ [] → qs ≡ (t / 4) in-state s ∷ []
-  -- "A call is tried for its target (in a subroutine) and then for the word after it (in main)."
+  -- after a call inside, at its target, and in main, behind it
   pub call : (t : ℕ) → reading.number d ≡ 8 → reading.values d ≡ t ∷ [] → qs ≡ (t / 4) in-state inside ∷ (p + 1) in-state main ∷ []
 
 -- An answer gives such pairs: how many they are, and which; one that is not there is place 0 in main.
@@ -165,7 +165,7 @@ pub record Gives (qs : List Pair) (r : Nexts) : Type 0 where
   pub first : r .first ≡ getD qs 0 (0 in-state main)
   pub second : r .second ≡ getD qs 1 (0 in-state main)
 
--- What each of the others answers of one pair.
+-- G26, G27: what each of the others answers of one pair.
 pub record AtOnePair : Type 0 where
   pub own-reason :
       (setting : Setting) (bytes list : List ℕ) (d : Reading) (p : ℕ) (s : Bool) (r : Finding)
@@ -181,8 +181,8 @@ pub record AtOnePair : Type 0 where
   -- the list by which the reasons and the path rule go, and the answer that gives it
   pub next-pairs : (d : Reading) (p : ℕ) (s : Bool) → NextsPlain d p s (nexts d p s)
   pub answers-nexts : (d : Reading) (p : ℕ) (s : Bool) (r : Nexts) → NextPairs d p s r → Gives (nexts d p s) r
-  -- The path rule asks these and no map: nothing of "reasons 3 to 8, 10 and 12" is found at a pair exactly if nothing is found of its
-  -- command's own, nor at a next pair, none taken to lack its mark.
+  -- H2: the path rule asks these and no map: none of its reasons is found at a pair exactly if nothing is found of its command's own, nor
+  -- at a next pair, none taken to lack its mark.
   pub path-rule :
       (setting : Setting) (bytes list : List ℕ) (p : ℕ) (s : Bool)
       → let x = submission setting bytes list in

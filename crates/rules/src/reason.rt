@@ -1,6 +1,6 @@
 // The reasons that speak against a command.
 
-// A reason, by the paper's number.
+// A reason, by its number (docs/CARD.md, G).
 pub struct Reason {
     pub number: u8,
 }

@@ -74,7 +74,7 @@ module _ (bytes : ℕ) where
     whole-words : bytes % 4 ≡ 0
     whole-words = eqb-true (bytes % 4) 0 (not-false _ (none-fails (programCases bytes) e .1 .0))
 
--- "In NV04-style ib_order is held as 0": whichever is asked for, it is the channel of the run that is opened
+-- S1: NV04-style holds ib_order as 0: whichever is asked for, it is the channel of the run that is opened
 opens-fresh : (order : ℕ) (o : Opened) → Opens 3 0 order false 0 0xffffffff [] o → (openingRefusal (o .answer) ≡ none) × (o .channel ≡ fresh)
 unfolding choose first keep lowest refusedOr repeatAt repeatOf duplicateOr openingOf heldOrder opened openOf openingRefusal
 opens-fresh order o h = rw h (refl, refl)

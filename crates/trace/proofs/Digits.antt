@@ -91,7 +91,7 @@ width-holds n narrow = go (lowest f 20) refl
         let h = lowest-some f 20 (suc k) .0 e in
         (suc k, refl, ltb-true n (10 ^ suc (suc k)) (h .1), λ p. ltb-false n (10 ^ suc k) (h .2 k (omega arith)))
 
--- "numbers are decimal"
+-- T10
 pub decimal-plain : (n : ℕ) → n < 2 ^ 64 → Decimal n (decimal n)
 unfolding decimal
 decimal-plain n narrow =

@@ -56,7 +56,7 @@ pub examples : Cases
 unfolding choose first keep lowest found? wordsOf hasBits numbersIn inMode increasing nonIncreasing sliConditional returning forms formIn nowhere? whyNot usable commandIn readingOf readOf refusedOr specials listed presentOf number repeatAt repeatOf puller-record.number puller-record.halts puller.rows puller.deedIn puller.deedOf puller.act puller.takeOf pusher-record.number pusher-record.halts pusher.wordRole pusher.role pusher.advanced pusher.parameterOf pusher.begun pusher.returned pusher.commanded pusher.act pusher.pushOf setupFits within addressBits enginesFit aligned wellFormed duplicateOr openingOf heldOrder opened openOf putRefused withPut putOf isStopped role finished act stepOf text orElse width decimal kinds kindName pusherErrors pusherName causeName refusals refusalName causeOf idles endingOf field fields eventText stepText endPart endText refusedText beginOf after over? answerText linesFrom endLine
 examples =
     record {
-      paper = run-of _ 2 refl (omega arith) refl refl;
+      printed-case = run-of _ 2 refl (omega arith) refl refl;
       no-words = run-of _ 0 refl (omega arith) refl refl;
       error = run-of _ 1 refl (omega arith) refl refl;
       part-word = refusal-of _ 9 refl;

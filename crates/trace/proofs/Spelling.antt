@@ -1,4 +1,4 @@
--- `Texts`, `Names` and `Whole`: what the lines say, in the paper's words. Assumes nothing.
+-- `Texts`, `Names` and `Whole`: what the lines say. Assumes nothing.
 use Prim.Native.Nat.{ℕ, zero, suc, _<_}
 use Prim.Native.String.{String}
 use mathlib.Core.Path.{_≡_, refl, subst}

@@ -1,5 +1,5 @@
--- The numbers of the answers that are enums, and their values: of a run's stage; and of the ends, in the order in which the paper
--- tries them, 0 where a run goes on.
+-- The numbers of the answers that are enums, and their values: of a run's stage; and of the ends, in the order in which they are
+-- tried, 0 where a run goes on.
 use Prim.Native.Nat.{ℕ}
 use mathlib.Core.List.{List, [], _∷_}
 use mathlib.Core.Option.{Option, none, some}

@@ -1,4 +1,4 @@
--- How a run ends: "`end` is error if the channel is stopped, else idle if a further step would be, else budget".
+-- How a run ends.
 use Prim.Native.Nat.{ℕ}
 use lib.Dec.{leb}
 use Rattle.word.specs.First.{choose}
@@ -12,11 +12,11 @@ use Rattle.trace.specs.declared.end.End.the-variants.{Error, Idle, Budge
 use Rattle.trace.specs.declared.end.Ending.{Ending}
 use Rattle.trace.specs.declared.end.Ending.the-variants.{GoesOn, Over}
 
--- what stopped a channel: the pusher's error, or else the puller's
+-- T9: what stopped a channel: the pusher's error, or else the puller's
 unfoldable pub causeOf : Channel → Cause
 causeOf c = choose (pusher.halts (c .pusher .error)) (cause.Pusher (c .pusher .error)) (cause.Puller (c .puller .error))
 
--- "at most 65,536 steps"
+-- T6: error, idle, budget, in that order, or it goes on
 unfoldable pub endingOf : Channel → ℕ → Ending
 endingOf c steps =
     choose (isStopped (c .pusher) (c .puller)) (Over (Error (causeOf c)))

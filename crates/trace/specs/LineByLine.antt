@@ -25,26 +25,26 @@ use Rattle.trace.specs.declared.run.Stage.the-variants.{Refused, Running
 use Rattle.trace.specs.declared.run.Trace.{Trace}
 use Rattle.trace.specs.declared.run.Told.{Told}
 
--- the words that are read from bytes, into so much room
+-- W17: the words that are read from bytes, into so much room
 abbrev pub fitting : List ℕ → List ℕ → List ℕ
 fitting bytes room = take (length room) (wordsOf bytes)
 
--- "level 3, SLI off, empty table, ..., limit 0xffffffff"
+-- T1: the channel of a run
 abbrev pub fresh : Channel
 fresh = openOf 3 0 0 false 0 0xffffffff [] .channel
 
 abbrev pub traceAt : Stage → Channel → ℕ → Trace
 traceAt s c n = record { stage = s; channel = c; steps = n }
 
--- "Over 32,768 bytes prints only refused=SIZE (tried first), a part word refused=LENGTH."
+-- R29: the program's order
 abbrev pub programCases : ℕ → List Case
 programCases bytes = SIZE when ltb 32768 bytes ∷ LENGTH when not (eqb (bytes % 4) 0) ∷ []
 
--- "put at the end"
+-- R29, T1: a run that is refused, or its channel with put at the end of the words
 unfoldable pub beginOf : ℕ → Trace
 beginOf bytes = refusedOr (λ r. traceAt (Refused r) fresh 0) (first (programCases bytes)) (traceAt Running (putOf fresh bytes .channel) 0)
 
--- "empty table"; there are no IB entries
+-- T1: what each step is lent
 abbrev pub lending : List ℕ → List ℕ → Loan
 lending ws sems = toStep ws [] [] sems
 
@@ -60,7 +60,7 @@ closed t l = record { line = l; trace = traceAt Over (t .channel) (t .steps) }
 abbrev pub closing : Trace → List ℕ → List ℕ → Leaving
 closing t line sems = record { told = closed t (lineOf line); memory = sems }
 
--- the line of a further step; where the step is refused, the refusal's
+-- T3: the line of a further step, with the read address before it; where the step is refused, the refusal's
 unfoldable pub answered : Trace → Channel → List ℕ → Answer → Leaving
 answered t c memory (answer.Event e) =
     record {
@@ -72,7 +72,7 @@ answered t c memory (answer.Refused r) = closing t (refusedText (r .number)) mem
 abbrev pub steppedOn : Trace → Outcome → Leaving
 steppedOn t o = answered t (o .stepped .channel) (o .memory) (o .stepped .answer)
 
--- the end line where the run has ended, else that of a further step
+-- T6, T7: the end line where the run has ended, else that of a further step
 unfoldable pub orEnd : Trace → List ℕ → List ℕ → Ending → Leaving
 orEnd t ws sems GoesOn = steppedOn t (stepOf (t .channel) (lending ws sems))
 orEnd t ws sems (Ended e) = closing t (endText e (t .steps) (t .channel .pusher .get) (t .channel .puller .reference)) sems
@@ -80,6 +80,7 @@ orEnd t ws sems (Ended e) = closing t (endText e (t .steps) (t .channel .pusher 
 abbrev pub running : Trace → List ℕ → List ℕ → Leaving
 running t ws sems = orEnd t ws sems (endingOf (t .channel) (t .steps))
 
+-- T2: a refusal's line, the run's next one, or nothing more
 unfoldable pub byStage : Trace → List ℕ → List ℕ → Stage → Leaving
 byStage t ws sems (Refused r) = closing t (refusedText (r .number)) sems
 byStage t ws sems Running = running t ws sems

@@ -1,4 +1,6 @@
--- The lines of the paper's 'Program' paragraph.
+-- The lines that the program prints (docs/CARD.md, T), such as
+--     step=2 get=4 kind=ref subc=0 mthd=80 param=7
+--     end=idle steps=2 get=8 ref=7
 use Prim.Native.Nat.{ℕ}
 use Prim.Native.String.{String}
 use mathlib.Core.List.{List, _++_}
@@ -10,33 +12,33 @@ use Rattle.trace.specs.Names.{kindName, causeName, refusalName}
 use Rattle.trace.specs.declared.end.End.{End}
 use Rattle.trace.specs.declared.end.End.the-variants.{Error, Idle, Budget}
 
--- " get=8"; "numbers are decimal"
+-- T10: a label, and a number in decimal
 unfoldable pub field : String → ℕ → List ℕ
 field label n = text label ++ decimal n
 
--- " subc=0 mthd=80 param=7"
+-- T4: the fields of a method
 unfoldable pub fields : Method → List ℕ
 fields m = field " subc=" (m .subchannel) ++ field " mthd=" (m .method) ++ field " param=" (m .parameter)
 
--- "only methods taken or discarded have further fields"
+-- T4, T5: an event's kind, and its method where it has one
 unfoldable pub eventText : Event → List ℕ
 eventText (Plain k) = text (kindName k)
 eventText (Of k m) = text (kindName k) ++ fields m
 
--- "step=2 get=4 kind=ref subc=0 mthd=80 param=7"; "`get` in a step line is before the step"
+-- T3, T10: the line of a step
 unfoldable pub stepText : ℕ → ℕ → Event → List ℕ
 stepText step get e = field "step=" step ++ field " get=" get ++ text " kind=" ++ eventText e ++ text "\n"
 
--- "after error stands cause= with the name"
+-- T7: how it ended
 unfoldable pub endPart : End → List ℕ
 endPart (Error c) = text "error cause=" ++ text (causeName c)
 endPart Idle = text "idle"
 endPart Budget = text "budget"
 
--- "end=idle steps=2 get=8 ref=7"
+-- T7, T10: the end line
 unfoldable pub endText : End → ℕ → ℕ → ℕ → List ℕ
 endText e steps get ref = text "end=" ++ endPart e ++ field " steps=" steps ++ field " get=" get ++ field " ref=" ref ++ text "\n"
 
--- "refused=SIZE"
+-- T2: a refusal's line
 unfoldable pub refusedText : ℕ → List ℕ
 refusedText n = text "refused=" ++ text (refusalName n) ++ text "\n"

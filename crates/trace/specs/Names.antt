@@ -1,4 +1,4 @@
--- The names that the paper gives.
+-- The names of kinds, causes and refusals, by their numbers.
 use Prim.Native.Nat.{ℕ, zero, suc}
 use Prim.Native.String.{String}
 use mathlib.Core.List.{List, [], _∷_}
@@ -24,8 +24,7 @@ nameAt [] n = []
 nameAt (b ∷ bs) zero = choose (eqb b 32) [] (b ∷ nameAt bs zero)
 nameAt (b ∷ bs) (suc n) = nameAt bs (choose (eqb b 32) n (suc n))
 
--- "`kind` is command, count, bind, ref, event, dma, offset, acquire, release, wait, forward or error, in the library also entry,
--- discard, idle and stopped": that list, which the kinds' numbers count
+-- T5: the kinds, in the order of their numbers
 unfoldable pub kinds : List String
 kinds =
     "command"
@@ -49,11 +48,11 @@ kinds =
 unfoldable pub kindName : Kind → String
 kindName k = name kinds (number k)
 
--- "Pusher errors: 1 CALL, 2 NON_CACHE, 3 RETURN, 4 RESERVED_CMD, 5 IB, 6 PROTECTION"
+-- T8: the pusher's errors, in the order of their numbers
 unfoldable pub pusherErrors : List String
 pusherErrors = "CALL" ∷ "NON_CACHE" ∷ "RETURN" ∷ "RESERVED_CMD" ∷ "IB" ∷ "PROTECTION" ∷ []
 
--- the puller's: "CACHE_ERROR NO_HASH", "EMPTY_SUBCHANNEL", "SEMAPHORE 1" to 4, "as NON_CACHE or SEMAPHORE_2"
+-- T8: the puller's
 unfoldable pub pullerErrors : List String
 pullerErrors = "NO_HASH" ∷ "EMPTY_SUBCHANNEL" ∷ "SEMAPHORE_1" ∷ "SEMAPHORE_2" ∷ "SEMAPHORE_3" ∷ "SEMAPHORE_4" ∷ []
 
@@ -67,7 +66,7 @@ unfoldable pub causeName : Cause → String
 causeName (Pusher e) = pusherName e
 causeName (Puller e) = pullerName e
 
--- the table of refusal numbers
+-- T2: the refusals, in the order of their numbers
 unfoldable pub refusals : List String
 refusals =
     "LEVEL"

@@ -1,4 +1,4 @@
--- What the program prints of the bytes on its input, as a whole: the paper's 'Program' paragraph.
+-- What the program prints of the bytes on its input, as a whole (docs/CARD.md, T).
 use Prim.Native.Nat.{ℕ, zero, suc, _+_}
 use mathlib.Core.Bool.{Bool, true, false}
 use mathlib.Core.List.{List, [], _++_}
@@ -20,7 +20,7 @@ use Rattle.trace.specs.LineByLine.{programCases, beginOf, lending}
 use Rattle.trace.specs.declared.end.Ending.{Ending}
 use Rattle.trace.specs.declared.end.Ending.the-variants.{GoesOn, Over}
 
--- what the run is lent: the words that the bytes are, and at first "1,024 zero semaphore words"
+-- T1: what the run is lent: the words that the bytes are, and at first 1,024 semaphore words that are 0
 abbrev pub lentFor : List ℕ → Loan
 lentFor bytes = lending (wordsOf bytes) (replicate 1024 0)
 
@@ -38,7 +38,7 @@ unfoldable pub over? : Ending → Bool
 over? GoesOn = false
 over? (Over e) = true
 
--- how many steps the run makes: the lowest number after which it has ended, which 65,536 is at the latest
+-- T6: how many steps the run makes: the lowest number after which it has ended, which 65,536 is at the latest
 unfoldable pub stepsOf : List ℕ → ℕ
 stepsOf bytes = orElse (lowest (λ n. over? (endingAt bytes n)) 65536) 65536
 
@@ -55,7 +55,7 @@ unfoldable pub linesFrom : List ℕ → ℕ → ℕ → List ℕ
 linesFrom bytes n zero = []
 linesFrom bytes n (suc k) = lineAfter bytes n ++ linesFrom bytes (suc n) k
 
--- the end line, after n steps
+-- T7: the end line, after n steps
 unfoldable pub endLine : Ending → ℕ → Channel → List ℕ
 endLine GoesOn n c = []
 endLine (Over e) n c = endText e n (c .pusher .get) (c .puller .reference)
@@ -63,6 +63,6 @@ endLine (Over e) n c = endText e n (c .pusher .get) (c .puller .reference)
 unfoldable pub runText : List ℕ → List ℕ
 runText bytes = linesFrom bytes 0 (stepsOf bytes) ++ endLine (endingAt bytes (stepsOf bytes)) (stepsOf bytes) (momentAfter bytes (stepsOf bytes) .channel)
 
--- "Over 32,768 bytes prints only refused=SIZE (tried first), a part word refused=LENGTH."
+-- T2: a refusal alone, or the run
 unfoldable pub printed : List ℕ → List ℕ
 printed bytes = refusedOr (λ r. refusedText (r .number)) (first (programCases (length bytes))) (runText bytes)

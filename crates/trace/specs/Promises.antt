@@ -37,13 +37,14 @@ use Rattle.trace.specs.declared.end.Ending.{Ending}
 use Rattle.trace.specs.declared.run.Trace.{Trace}
 use Rattle.trace.specs.declared.run.Told.{Told}
 
--- Promise 1. "Over 32,768 bytes prints only refused=SIZE (tried first), a part word refused=LENGTH": 8 and 9.
+-- Promise 1. R29: the program's order, in plain terms. R8, R9
 abbrev pub programPlain : ℕ → List PlainCase
 programPlain bytes = 8 if (32768 < bytes) ∷ 9 if (bytes % 4 ≡ 0 → ⊥) ∷ []
 
+-- R21, R29: a run is refused exactly so
 pub record Refused : Type 0 where
   pub begin : (bytes : ℕ) (t : Trace) → Begins bytes t → (n : ℕ) → stageRefusal (t .stage) ≡ some n ↔ FirstIs (programPlain bytes) n
-  -- what is told last, a refusal too, changes neither channel nor semaphore words
+  -- R31: what is told last, a refusal too, changes neither channel nor semaphore words
   pub unchanged :
       (t : Trace) (ws sems : List ℕ) (told : Told) (exit : List ℕ)
       → Tells t ws sems told exit
@@ -64,13 +65,13 @@ pub record One : Type 0 where
       → Tells t ws sems b y
       → (a ≡ b) × (x ≡ y)
 
--- "level 3, SLI off, empty table, ..., limit 0xffffffff, put at the end": a run begins at the channel that is opened so in NV04-style,
--- whatever ib_order is asked for, and no step is made.
+-- T1: a run begins at a channel, and no step is made.
 pub record StartsAt (c : Channel) (n : ℕ) (t : Trace) : Type 0 where
   pub channel : t .channel ≡ c
   pub stage : stageNumber (t .stage) ≡ n
   pub steps : t .steps ≡ 0
 
+-- T1: which channel: opened so, whatever ib_order is asked for, with put at the number of bytes
 pub record Begun : Type 0 where
   pub runs :
       (bytes order : ℕ) (t : Trace) (o : Opened) (q : Put)
@@ -87,10 +88,9 @@ pub record Begun : Type 0 where
       → Opens 3 0 order false 0 0xffffffff [] o
       → StartsAt (o .channel) 1 t
 
--- "`end` is error if the channel is stopped, else idle if a further step would be, else budget", at every channel. A number 0 of the
--- errors is none.
+-- T6: how a run has ended, at every channel. A number 0 of the errors is none.
 pub record Ended : Type 0 where
-  -- 1 is error, with its cause: 1 the pusher's or 2 the puller's, and the error's number
+  -- T9: 1 is error, with its cause: 1 the pusher's or 2 the puller's, and the error's number
   pub pusher-error :
       (c : Channel) (n : ℕ) (a : Ending)
       → Ends c n a
@@ -104,7 +104,7 @@ pub record Ended : Type 0 where
       → (endingNumber a ≡ 1) × (endingValues a ≡ 2 ∷ puller.number (c .puller .error) ∷ [])
   -- 2 is idle, exactly if the channel's `idle` says so;
   pub idle : (c : Channel) (n : ℕ) (a : Ending) (b : Bool) → Ends c n a → Idles c b → endingNumber a ≡ 2 ↔ b ≡ true
-  -- "if a further step would be": exactly if one that is not refused says so, whatever is lent to it
+  -- exactly if a further step that is not refused says so, whatever is lent to it
   pub further-step :
       (c : Channel) (n : ℕ) (a : Ending) (l : Loan) (exit : List ℕ) (r : Stepped)
       → Ends c n a
@@ -133,13 +133,13 @@ pub record Has (t : List ℕ) (l : Line) : Type 0 where
 
 -- What the lines say, field by field; what the texts, numbers and names in them are is said by `Texts` and `Names`.
 pub record Whole : Type 0 where
-  -- "step=1 get=0 kind=command", of a kind alone
+  -- T3, T5: a step's line, of a kind alone
   pub step-line :
       (step get : ℕ) (e : Event) (k : Kind) (l : Line)
       → StepLine step get e l
       → values e ≡ number k ∷ []
       → Has (text "step=" ++ decimal step ++ text " get=" ++ decimal get ++ text " kind=" ++ text (kindName k) ++ text "\n") l
-  -- "step=2 get=4 kind=ref subc=0 mthd=80 param=7", of a kind with subchannel, method and parameter
+  -- T4: and of a kind with subchannel, method and parameter
   pub method-line :
       (step get : ℕ) (e : Event) (k : Kind) (b m p : ℕ) (l : Line)
       → StepLine step get e l
@@ -159,7 +159,7 @@ pub record Whole : Type 0 where
       ++ decimal p
       ++ text "\n")
       l
-  -- "end=idle steps=2 get=8 ref=7"; 2 is idle, 3 budget, and 1 error: "after error stands cause= with the name"
+  -- T7: the end line: 2 is idle, 3 budget, and 1 error, with its cause
   pub idle-line :
       (e : End) (steps get ref : ℕ) (l : Line)
       → EndLine e steps get ref l
@@ -186,7 +186,7 @@ pub record Whole : Type 0 where
       ++ decimal ref
       ++ text "\n")
       l
-  -- "refused=SIZE"
+  -- T2: a refusal's line
   pub refused-line : (n : Refusal) (l : Line) → RefusedLine n l → Has (text "refused=" ++ text (refusalName (n .number)) ++ text "\n") l
 
 -- A number in decimal: digits, the most significant first, whose value it is, at least one and no 0 before others. '0' is byte 48.
@@ -199,34 +199,32 @@ pub record Decimal (n : ℕ) (ds : List ℕ) : Type 0 where
   pub some : 1 ≤ length ds
   pub no-zero : 1 < length ds → getD ds 0 0 ≡ 48 → ⊥
 
--- A text is the codes of its characters; "numbers are decimal", and have at most 64 bits.
+-- T10: a text is the codes of its characters; a number, which has at most 64 bits, is its decimal digits.
 pub record Texts : Type 0 where
   pub nothing : text "" ≡ []
   pub character : (c : Char) (s : String) → text (c and s) ≡ code c ∷ text s
   pub number : (n : ℕ) → n < 2 ^ 64 → Decimal n (decimal n)
 
--- The names of kinds and errors, in the paper's lists, each at the number of what it names, from 1; 0 has the empty name. "`kind` is
--- command, count, bind, ref, event, dma, offset, acquire, release, wait, forward or error, in the library also entry, discard, idle and
--- stopped"
+-- The names, each at the number of what it names, from 1; 0 has the empty name. T5: the kinds'
 abbrev pub kindsNamed : List (Option String)
 kindsNamed =
     map some
     ("" ∷ "command" ∷ "count" ∷ "bind" ∷ "ref" ∷ "event" ∷ "dma" ∷ "offset" ∷ "acquire" ∷ "release" ∷ "wait" ∷ "forward" ∷ "error" ∷ "entry" ∷ "discard" ∷ "idle" ∷ "stopped" ∷ [])
 
--- "Pusher errors: 1 CALL, 2 NON_CACHE, 3 RETURN, 4 RESERVED_CMD, 5 IB, 6 PROTECTION"
+-- T8: the pusher's errors'
 abbrev pub pusherNamed : List (Option String)
 pusherNamed = map some ("" ∷ "CALL" ∷ "NON_CACHE" ∷ "RETURN" ∷ "RESERVED_CMD" ∷ "IB" ∷ "PROTECTION" ∷ [])
 
--- "CACHE_ERROR NO_HASH", "EMPTY_SUBCHANNEL", "SEMAPHORE 1" to 4; "as NON_CACHE or SEMAPHORE_2"
+-- T8: the puller's
 abbrev pub pullerNamed : List (Option String)
 pullerNamed = map some ("" ∷ "NO_HASH" ∷ "EMPTY_SUBCHANNEL" ∷ "SEMAPHORE_1" ∷ "SEMAPHORE_2" ∷ "SEMAPHORE_3" ∷ "SEMAPHORE_4" ∷ [])
 
--- No kind and no error is left out. Of the refusals' numbers, 0 and those past the list have the empty name.
+-- T5, T8: no kind and no error is left out. T2: of the refusals' numbers, 0 and those past the list have the empty name.
 pub record Names : Type 0 where
   pub kinds : (k : Kind) → getD kindsNamed (number k) none ≡ some (kindName k)
   pub pusher : (c : Cause) (n : ℕ) → causeNumber c ≡ 1 → causeValues c ≡ n ∷ [] → getD pusherNamed n none ≡ some (causeName c)
   pub puller : (c : Cause) (n : ℕ) → causeNumber c ≡ 2 → causeValues c ≡ n ∷ [] → getD pullerNamed n none ≡ some (causeName c)
-  -- the table of refusal numbers
+  -- the refusals', R1 to R13
   pub refusals :
       map refusalName (1 ∷ 2 ∷ 3 ∷ 4 ∷ 5 ∷ 6 ∷ 7 ∷ 8 ∷ 9 ∷ 10 ∷ 11 ∷ 12 ∷ 13 ∷ [])
       ≡ "LEVEL" ∷ "MODE" ∷ "ORDER" ∷ "SLI" ∷ "TABLE" ∷ "DUPLICATE" ∷ "PUT" ∷ "SIZE" ∷ "LENGTH" ∷ "FIELD" ∷ "ROOM" ∷ "FORM" ∷ "STATE" ∷ []
@@ -249,7 +247,7 @@ pub record Counts (t : Trace) (r : Stepped) (after : List ℕ) (told : Told) (ex
   pub memory : exit ≡ after
 
 pub record NextLine : Type 0 where
-  -- a run that is refused tells the refusal, and one that is over nothing more
+  -- T2: a run that is refused tells the refusal, and one that is over nothing more
   pub refused :
       (t : Trace) (ws sems : List ℕ) (told : Told) (exit : List ℕ) (n : Refusal)
       → Tells t ws sems told exit
@@ -260,7 +258,7 @@ pub record NextLine : Type 0 where
       → Tells t ws sems told exit
       → stageNumber (t .stage) ≡ 3
       → Has [] (told .line) × Closes t sems told exit
-  -- one that runs and has ended tells its end, with the steps, the read address and the reference counter,
+  -- T6, T7: one that runs and has ended tells its end, with the steps, the read address and the reference counter,
   pub end :
       (t : Trace) (ws sems : List ℕ) (told : Told) (exit : List ℕ) (a : Ending) (e : End)
       → Tells t ws sems told exit
@@ -269,8 +267,8 @@ pub record NextLine : Type 0 where
       → endingNumber a ≡ endNumber e
       → endingValues a ≡ endValues e
       → EndLine e (t .steps) (t .channel .pusher .get) (t .channel .puller .reference) (told .line) × Closes t sems told exit
-  -- and one that goes on makes a step, to which the words, the semaphore words, no IB entries and an "empty table" are lent, and tells
-  -- its event; "`get` in a step line is before the step"
+  -- T1, T3: and one that goes on makes a step, to which the words, the semaphore words, no IB entries and an empty table are lent, and
+  -- tells its event, with the read address before the step
   pub step :
       (t : Trace) (ws sems : List ℕ) (told : Told) (exit : List ℕ) (a : Ending) (r : Stepped) (after : List ℕ) (e : Event)
       → Tells t ws sems told exit
@@ -291,7 +289,7 @@ pub record NextLine : Type 0 where
       → stepRefusal (r .answer) ≡ some (n .number)
       → RefusedLine n (told .line) × Closes t sems told exit
 
--- The words that the bytes are, read into lent ones.
+-- W17: the words that the bytes are, read into lent ones.
 pub record Loaded : Type 0 where
   -- where there is room, all of them stand in front, and the rest stays;
   pub all :
@@ -328,8 +326,9 @@ pub data LeadsTo (ws : List ℕ) (c : Channel) : Channel → List ℕ → Type 0
       → e ≡ r .channel
       → LeadsTo ws c e exit
 
+-- T1 to T10: all of it together
 pub record Printed : Type 0 where
-  -- from its beginning, over the words that the bytes are and 1,024 zero semaphore words, in at most 65,537 lines
+  -- from its beginning, over the words that the bytes are and 1,024 zero semaphore words, in at most 65,537 lines (T6)
   pub lines :
       (bytes : List ℕ) (t : Trace)
       → ((i : ℕ) → getD bytes i 0 < 2 ^ 8)
@@ -345,9 +344,9 @@ pub record Printed : Type 0 where
       → StepsTo d (toStep (wordsOf bytes) [] [] sems) r exit
       → stepRefusal (r .answer) ≡ none
 
--- "For 0x00040050, 0x00000007 it prints exactly"; and three more
+-- Texts to try: T3, T4, T7 with two words; no words; an error; and T2
 pub record Cases : Type 0 where
-  pub paper :
+  pub printed-case :
       printed (0x50 ∷ 0x00 ∷ 0x04 ∷ 0x00 ∷ 0x07 ∷ 0x00 ∷ 0x00 ∷ 0x00 ∷ [])
       ≡ text "step=1 get=0 kind=command\nstep=2 get=4 kind=ref subc=0 mthd=80 param=7\nend=idle steps=2 get=8 ref=7\n"
   pub no-words : printed [] ≡ text "end=idle steps=0 get=0 ref=0\n"

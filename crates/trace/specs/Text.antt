@@ -21,6 +21,6 @@ orElse (some k) n = k
 unfoldable pub width : ℕ → ℕ
 width n = suc (orElse (lowest (λ k. ltb n (10 ^ suc k)) 20) 20)
 
--- "numbers are decimal"
+-- T10: a number in decimal
 unfoldable pub decimal : ℕ → List ℕ
 decimal n = digits 10 (width n) n

@@ -1,4 +1,4 @@
-// The lines, by the paper's words.
+// The lines, word by word (docs/CARD.md, T).
 ghost use mathlib.Core.Path.{_≡_};
 ghost use Rattle.trace.specs.Text.{text};
 ghost use Rattle.trace.specs.Line.{added};

@@ -6,7 +6,7 @@ use Rattle.rules.specs.declared.judging.Verdict.{Verdict}
 use Rattle.rules.specs.declared.judging.Verdict.the-variants.{Accepted, Rejected, Refused}
 use Rattle.rules.specs.declared.judging.Judgement.{Judgement}
 
--- 0 stands for none
+-- G32: the parts of the answer; 0 stands for none
 unfoldable pub reasonIn : Verdict → ℕ
 reasonIn Accepted = 0
 reasonIn (Rejected r p) = r .number
@@ -22,7 +22,7 @@ placeIn Accepted = 0
 placeIn (Rejected r p) = p
 placeIn (Refused n) = 0
 
--- a byte of reason, a byte of refusal, a byte of 0, 16 bits of count, 24 of place
+-- G32: a byte of reason, a byte of refusal, a byte of 0, 16 bits of count, 24 of place
 unfoldable pub packed : Judgement → ℕ
 packed j =
     placeIn (j .verdict) % 2 ^ 24 * 2 ^ 40
@@ -30,6 +30,6 @@ packed j =
     + (refusalIn (j .verdict) * 2 ^ 8
     + reasonIn (j .verdict)))
 
--- the SLI setting as a number: 0 is off
+-- G32: the SLI setting as a number: 0 is off
 abbrev pub on : ℕ → Bool
 on sli = not (eqb sli 0)

@@ -15,7 +15,7 @@ use Rattle.upborliya.specs.Contracts.{JudgesPacked}
 abbrev pub One : Type 0
 One = (level sli : ℕ) (bytes map list : List ℕ) (a b : ℕ) → JudgesPacked level sli bytes map list a → JudgesPacked level sli bytes map list b → a ≡ b
 
--- What the number for C says: each part of it is what the answer has, and both bytes 0 is accepted.
+-- G32: what the number for C says: each part of it is what the answer has, and both bytes 0 is accepted.
 pub record Unpacked (n : ℕ) (r : Judgement) : Type 0 where
   pub reason : (k : ℕ) → number (r .verdict) ≡ some k → n % 2 ^ 8 ≡ k
   pub no-reason : number (r .verdict) ≡ none → n % 2 ^ 8 ≡ 0
@@ -27,11 +27,12 @@ pub record Unpacked (n : ℕ) (r : Judgement) : Type 0 where
   pub no-place : values (r .verdict) ≡ [] → n / 2 ^ 40 ≡ 0
   pub accepted : ((n % 2 ^ 8 ≡ 0) × (n / 2 ^ 8 % 2 ^ 8 ≡ 0)) ↔ Accepts (r .verdict)
 
--- the SLI setting as a number: 0 is off, and any other number on
+-- G32: the SLI setting as a number: 0 is off, and any other number on
 pub record Switches (n : ℕ) (on : Bool) : Type 0 where
   pub zero : n ≡ 0 → on ≡ false
   pub other : (n ≡ 0 → ⊥) → on ≡ true
 
+-- G32: nothing of the answer is lost
 abbrev pub GivesBack : Type 0
 GivesBack =
     (level sli : ℕ) (on : Bool) (bytes map list : List ℕ) (r : Judgement) (n : ℕ)

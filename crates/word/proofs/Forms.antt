@@ -99,7 +99,7 @@ module _ (s : Setting) (w n : ℕ) where
   row-of P f [] (there i) a k c = absurd a
   row-of P f (x ∷ xs) (there i) a k c = row-of P f xs i (a .1) (k .1) c
 
-  -- "Everything else is reserved"
+  -- W12
   else-reserved : Each (λ x. Stands x → ⊥) (rows s w n) → number (readingOf s w n) ≡ 9
   unfolding number
   else-reserved k =

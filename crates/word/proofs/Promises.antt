@@ -67,7 +67,7 @@ found : (s : Setting) (ws : List ℕ) (p : ℕ) → placeRefusal (choose (ltb p 
 unfolding placeRefusal
 found s ws p = by-test (λ a. placeRefusal a ≡ none) (λ t. refl) (λ t. refl)
 
--- "No refusal writes lent memory"
+-- R31
 untouched : (a : Written) (r : Reading) (out exit : List ℕ) (n : ℕ) → exit ≡ outAfter a r out → writtenRefusal a ≡ some n → exit ≡ out
 unfolding outAfter writtenRefusal
 untouched (written.Words k) r out exit n e h = let z : _≡_ {A = ℕ} 0 1 = cc in absurd (omega arith)

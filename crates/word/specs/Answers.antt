@@ -1,4 +1,4 @@
--- The paper's numbers of the answers that are enums: the refusal's, and none where nothing is refused; and what else an
+-- The numbers of the answers that are enums: the refusal's, and none where nothing is refused; and what else an
 -- answer says. (A reading's own number and values are in Reading.antt.)
 use Prim.Native.Nat.{ℕ}
 use mathlib.Core.List.{List, [], _∷_}

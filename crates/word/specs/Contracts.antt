@@ -37,6 +37,6 @@ pub record Writes (s : Setting) (r : Reading) (out : List ℕ) (a : Written) (ex
 abbrev pub Presents : Level → ℕ → Bool → Type 0
 Presents level n r = r ≡ presentOf (level .number) n
 
--- `word_at`, of words lent as bytes and a place; past the last whole word stands 0
+-- `word_at`, of words lent as bytes and a place (W17); past the last whole word stands 0
 abbrev pub LentAt : List ℕ → ℕ → ℕ → Type 0
 LentAt bytes p r = r ≡ getD (wordsOf bytes) p 0

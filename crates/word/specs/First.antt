@@ -1,4 +1,4 @@
--- "The first in order is given": a list of numbers with their conditions, and the first that holds.
+-- Of several that may apply, the first in order (R21): a list of numbers with their conditions, and the first that holds.
 use Prim.Native.Nat.{ℕ}
 use mathlib.Core.Path.{_≡_}
 use mathlib.Core.Bool.{Bool, true, false}
@@ -20,7 +20,7 @@ infix 70 _when_
 abbrev pub _when_ : ℕ → Bool → Case
 n when b = record { number = n; holds = b }
 
--- the number of the first case that holds, if any does
+-- R21: the number of the first case that holds, if any does
 unfoldable pub first : List Case → Option ℕ
 first [] = none
 first (c ∷ cs) = choose (c .holds) (some (c .number)) (first cs)
@@ -34,7 +34,7 @@ infix 70 _if_
 abbrev pub _if_ : ℕ → Type 0 → PlainCase
 n if p = record { number = n; holds = p }
 
--- and that n is the number of the first that holds: its condition holds, and none before it does
+-- R21: and that n is the number of the first that holds: its condition holds, and none before it does
 abbrev pub FirstIs : List PlainCase → ℕ → Type 0
 FirstIs [] n = ⊥
 FirstIs (c ∷ cs) n = (c .holds × (n ≡ c .number)) ⊎ ((c .holds → ⊥) × FirstIs cs n)

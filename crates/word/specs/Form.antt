@@ -1,5 +1,5 @@
--- The paper's 'Command words' as a table: a row a form, with what its bits are, from which level up, in which
--- mode, and whether SLI must be enabled.
+-- The forms of a command's first word as a table (docs/CARD.md, W): a row a form, with what its bits are, from which level up, in
+-- which mode, and whether SLI must be on.
 use Prim.Native.Nat.{ℕ}
 use mathlib.Core.Bool.{Bool, true, false, not, _&&_}
 use mathlib.Core.List.{List, [], _∷_}
@@ -13,7 +13,7 @@ use Rattle.word.specs.declared.setting.Setting.{Setting}
 use Rattle.word.specs.declared.reading.Reading.{Reading}
 use Rattle.word.specs.declared.reading.Reading.the-variants.{Increasing, NonIncreasing, Sli, Return, Long, OldJump, Jump, Call, Reserved}
 
--- In which mode a form may be used: in either, in one only, or, as everything else, in none.
+-- W11: in which mode a form may be used: in either, in one only, or, of what is no form, in none.
 pub data Where : Type 0 where
   either : Where
   only : ℕ → Where
@@ -54,46 +54,46 @@ one command ns = command (getD ns 0 0)
 abbrev three : (ℕ → ℕ → ℕ → Reading) → List ℕ → Reading
 three command ns = command (getD ns 0 0) (getD ns 1 0) (getD ns 2 0)
 
--- "Bits 31-29 = 000, 17-16 = 00, 1-0 = 00: increasing. Count bits 28-18, subchannel 15-13, method bits 12-2."
+-- W1: a run of parameters whose method rises
 unfoldable pub increasing : Form
 increasing = row (is 31 29 0 ∷ carries 28 18 ∷ is 17 16 0 ∷ carries 15 13 ∷ address 12 2 ∷ is 1 0 0 ∷ []) [] 0 either false (three Increasing)
 
--- "010 in place of 000: non-increasing, level 1 up."
+-- W2: one whose method stays
 unfoldable pub nonIncreasing : Form
 nonIncreasing = row (is 31 29 2 ∷ carries 28 18 ∷ is 17 16 0 ∷ carries 15 13 ∷ address 12 2 ∷ is 1 0 0 ∷ []) [] 1 either false (three NonIncreasing)
 
--- "Upper half 0x0001, bits 3-0 zero: SLI conditional, mask bits 15-4, level 3 up and enabled."
+-- W3: the SLI conditional
 unfoldable pub sliConditional : Form
 sliConditional = row (is 31 16 1 ∷ carries 15 4 ∷ is 3 0 0 ∷ []) [] 3 either true (one Sli)
 
--- "0x00020000: return, level 2 up." "Jumps, call and return are NV04-style only."
+-- W4: the return, one word alone
 unfoldable pub returning : Form
 returning = row (is 31 0 0x00020000 ∷ []) [] 2 (only 0) false (λ ns. Return)
 
--- "Upper half 0x0003, bits 1-0 = 00: long non-increasing, IB only; the low 24 bits of the next word are the count, the
--- upper 8 are ignored and written as 0."
+-- W5, W14: the long form, whose count is in a word of its own, of which eight bits are spare
 unfoldable pub long : Form
 long = row (is 31 16 3 ∷ carries 15 13 ∷ address 12 2 ∷ is 1 0 0 ∷ []) (spare 31 24 ∷ carries 23 0 ∷ []) 0 (only 1) false (three Long)
 
--- "Bits 31-29 = 001, bits 1-0 = 00: old jump, target bits 28-2."
+-- W6: the old jump, with 29 bits for its target
 unfoldable pub oldJump : Form
 oldJump = row (is 31 29 1 ∷ address 28 2 ∷ is 1 0 0 ∷ []) [] 0 (only 0) false (one OldJump)
 
--- "Bits 1-0 = 01: jump; 10: call; level 2 up; target is the word with those two bits cleared."
+-- W7: the jump: the two lowest bits tell it
 unfoldable pub jump : Form
 jump = row (address 31 2 ∷ is 1 0 1 ∷ []) [] 2 (only 0) false (one Jump)
 
+-- W8: the call, told in the same way
 unfoldable pub call : Form
 call = row (address 31 2 ∷ is 1 0 2 ∷ []) [] 2 (only 0) false (one Call)
 
--- "Everything else is reserved."
+-- W12: what has none of these forms
 unfoldable pub everythingElse : Form
 everythingElse = row [] [] 0 nowhere false (λ ns. Reserved)
 
 unfoldable pub forms : List Form
 forms = increasing ∷ nonIncreasing ∷ sliConditional ∷ returning ∷ long ∷ oldJump ∷ jump ∷ call ∷ []
 
--- the form whose bits a word has: the first row that fits, and no other does (`OneForm`)
+-- W10: the form whose bits a word has: the first row that fits, and no other does (`OneForm`)
 unfoldable pub formIn : List Form → ℕ → Form
 formIn [] w = everythingElse
 formIn (f ∷ fs) w = choose (hasBits (f .word) w) f (formIn fs w)
@@ -114,6 +114,7 @@ NOT_IN_MODE = 3
 abbrev pub SLI_OFF : ℕ
 SLI_OFF = 4
 
+-- W11: these, each with its condition
 abbrev pub unusableCases : Setting → Form → List Case
 unusableCases s f =
     NO_SUCH_FORM when nowhere? (f .mode)
@@ -126,6 +127,6 @@ unusableCases s f =
 unfoldable pub whyNot : Setting → Form → Option ℕ
 whyNot s f = first (unusableCases s f)
 
--- FORM is "command not available at that level, mode and SLI setting": whether none applies
+-- W11, R12: whether none applies; where one does, the writer says FORM
 unfoldable pub usable : Setting → Form → Bool
 usable s f = not (found? (whyNot s f))

@@ -1,4 +1,4 @@
--- The paper's 'Command words' in plain terms: which word reads as what, at which setting.
+-- The forms of a command's first word in plain terms (docs/CARD.md, W): which word reads as what, at which setting.
 use Prim.Native.Nat.{ℕ, _*_, _/_, _%_, _^_, _≤_}
 use mathlib.Core.Path.{_≡_}
 use mathlib.Core.Bool.{true}
@@ -22,9 +22,9 @@ abbrev row : ℕ → Type 0 → Type 0 → List ℕ → Row
 row number bits available numbers = record { number = number; bits = bits; available = available; numbers = numbers }
 
 -- The rows, of a setting, a word and the word after it. A field is the word divided by 2 to its lowest bit, modulo 2 to its width;
--- methods and targets are byte numbers, four times their field.
+-- methods and targets are byte numbers, four times their field (W9).
 module _ (s : Setting) (w next : ℕ) where
-  -- "Bits 31-29 = 000, 17-16 = 00, 1-0 = 00: increasing. Count bits 28-18, subchannel 15-13, method bits 12-2."
+  -- W1: a run of parameters whose method rises: count, subchannel, method
   abbrev pub increasing : Row
   increasing =
       row 1
@@ -32,7 +32,7 @@ module _ (s : Setting) (w next : ℕ) where
       (Unit {0})
       (w / 2 ^ 18 % 2 ^ 11 ∷ w / 2 ^ 13 % 2 ^ 3 ∷ w / 2 ^ 2 % 2 ^ 11 * 4 ∷ [])
 
-  -- "010 in place of 000: non-increasing, level 1 up."
+  -- W2: the same with a method that stays, from level 1
   abbrev pub nonIncreasing : Row
   nonIncreasing =
       row 2
@@ -40,7 +40,7 @@ module _ (s : Setting) (w next : ℕ) where
       (1 ≤ s .level .number)
       (w / 2 ^ 18 % 2 ^ 11 ∷ w / 2 ^ 13 % 2 ^ 3 ∷ w / 2 ^ 2 % 2 ^ 11 * 4 ∷ [])
 
-  -- "Upper half 0x0001, bits 3-0 zero: SLI conditional, mask bits 15-4, level 3 up and enabled."
+  -- W3: the SLI conditional, from level 3 with SLI on: its mask
   abbrev pub sliConditional : Row
   sliConditional =
       row 3
@@ -48,11 +48,11 @@ module _ (s : Setting) (w next : ℕ) where
       ((3 ≤ s .level .number) × (s .sli ≡ true))
       (w / 2 ^ 4 % 2 ^ 12 ∷ [])
 
-  -- "0x00020000: return, level 2 up." "Jumps, call and return are NV04-style only."
+  -- W4: the return, from level 2 in NV04-style
   abbrev pub returning : Row
   returning = row 4 (w % 2 ^ 32 ≡ 0x00020000) ((2 ≤ s .level .number) × (s .mode .number ≡ 0)) []
 
-  -- "Upper half 0x0003, bits 1-0 = 00: long non-increasing, IB only; the low 24 bits of the next word are the count"
+  -- W5, W14: the long form, in IB mode: of the word after it the low 24 bits are the count, and nothing is asked of the others
   abbrev pub long : Row
   long =
       row 5
@@ -60,14 +60,15 @@ module _ (s : Setting) (w next : ℕ) where
       (s .mode .number ≡ 1)
       (w / 2 ^ 13 % 2 ^ 3 ∷ w / 2 ^ 2 % 2 ^ 11 * 4 ∷ next % 2 ^ 24 ∷ [])
 
-  -- "Bits 31-29 = 001, bits 1-0 = 00: old jump, target bits 28-2."
+  -- W6: the old jump, in NV04-style: its target
   abbrev pub oldJump : Row
   oldJump = row 6 ((w / 2 ^ 29 % 2 ^ 3 ≡ 1) × (w % 2 ^ 2 ≡ 0)) (s .mode .number ≡ 0) (w / 2 ^ 2 % 2 ^ 27 * 4 ∷ [])
 
-  -- "Bits 1-0 = 01: jump; 10: call; level 2 up; target is the word with those two bits cleared."
+  -- W7: the jump, from level 2 in NV04-style: its target
   abbrev pub jump : Row
   jump = row 7 (w % 2 ^ 2 ≡ 1) ((2 ≤ s .level .number) × (s .mode .number ≡ 0)) (w / 2 ^ 2 % 2 ^ 30 * 4 ∷ [])
 
+  -- W8: the call, as the jump
   abbrev pub call : Row
   call = row 8 (w % 2 ^ 2 ≡ 2) ((2 ≤ s .level .number) × (s .mode .number ≡ 0)) (w / 2 ^ 2 % 2 ^ 30 * 4 ∷ [])
 
@@ -79,7 +80,7 @@ abbrev pub Each : (Row → Type 0) → List Row → Type 0
 Each P [] = Unit {0}
 Each P (x ∷ xs) = P x × Each P xs
 
--- a row stands: the word has its bits, and it may be used
+-- W11: a row stands: the word has its bits, and it may be used
 abbrev pub Stands : Row → Type 0
 Stands x = x .bits × x .available
 
@@ -90,24 +91,24 @@ pub record ReadsAs (r : Reading) (x : Row) : Type 0 where
 
 -- What a word reads as, at every setting.
 pub record Forms : Type 0 where
-  -- each row, at a setting that is not refused
+  -- W9, W11: each row, at a setting that is not refused
   pub each :
       (s : Setting) (w next : ℕ) (r : Reading)
       → Reads s w next r
       → (SomeHolds (settingPlain s) → ⊥)
       → Each (ReadsAs r) (rows s w next)
-  -- "Everything else is reserved": number 9, which has no values
+  -- W12: number 9, which has no values, where no row stands
   pub reserved :
       (s : Setting) (w next : ℕ) (r : Reading)
       → Reads s w next r
       → (SomeHolds (settingPlain s) → ⊥)
       → (number r ≡ 9 ↔ Each (λ x. Stands x → ⊥) (rows s w next)) × (number r ≡ 9 → values r ≡ [])
-  -- number 10 exactly at a setting that is refused, with the refusal's number
+  -- W13: number 10 exactly at a setting that is refused, with the refusal's number
   pub refused :
       (s : Setting) (w next : ℕ) (r : Reading)
       → Reads s w next r
       → (number r ≡ 10 ↔ SomeHolds (settingPlain s)) × ((n : ℕ) → FirstIs (settingPlain s) n → values r ≡ n ∷ [])
 
--- No word has the bits of two rows, whatever the setting: so their order says nothing.
+-- W10: no word has the bits of two rows, whatever the setting: so their order says nothing.
 abbrev pub OneForm : Type 0
 OneForm = (s : Setting) (w next : ℕ) → Each (λ x. x .bits → Each (λ y. y .bits → x .number ≡ y .number) (rows s w next)) (rows s w next)

@@ -7,7 +7,7 @@ use lib.ListN.{getD}
 abbrev pub Words : List ℕ → Type 0
 Words l = (i : ℕ) → getD l i 0 < 2 ^ 32
 
--- "words little-endian": the lowest byte first; what is left of a part word is none
+-- W17: the lowest byte first; what is left of a part word is no word
 unfoldable pub wordsOf : List ℕ → List ℕ
 wordsOf [] = []
 wordsOf (a ∷ []) = []

@@ -1,5 +1,5 @@
--- The paper's 'Numbers', "in a single table under one statement; level 3, NV04-style, SLI on unless said", and the first of
--- its 'Misreadings to catch'. Rows below level 3 are read with SLI off: with SLI on they would be refused.
+-- The words to try of docs/CARD.md (W), in one table: at level 3 in NV04-style with SLI on where a row says nothing else; and a jump
+-- whose upper half looks like another form's. Rows below level 3 are read with SLI off: with SLI on they would be refused.
 use Prim.Native.Nat.{ℕ, _%_}
 use mathlib.Core.Bool.{Bool, true, false}
 use mathlib.Core.List.{List, [], _∷_, map}
@@ -36,6 +36,6 @@ table next =
     ∷ row 2 0 false 0x00010001 (Jump 0x00010000)
     ∷ []
 
--- every row reads as it says, for every next word
+-- W1 to W8, W9, W10, W12, W14: every row reads as it says, for every next word
 abbrev pub Numbers : Type 0
 Numbers = (next : ℕ) → map (λ (x : Row). readOf (x .setting) (x .word) next) (table next) ≡ map (λ (x : Row). x .reading) (table next)

@@ -1,5 +1,5 @@
--- The parts of a word: how it is taken apart into numbers, and put together from them. A field is named by its bits, as the
--- paper names it.
+-- The parts of a word: how it is taken apart into numbers, and put together from them. A field is named by its highest and its
+-- lowest bit.
 use Prim.Native.Nat.{ℕ, suc, _+_, _-_, _*_, _/_, _%_, _^_}
 use mathlib.Core.Bool.{Bool, true, false, _&&_}
 use mathlib.Core.List.{List, [], _∷_}
@@ -11,13 +11,13 @@ bits hi lo w = w / 2 ^ lo % 2 ^ (hi + 1 - lo)
 
 -- A part of a word, bits `hi` to `lo`.
 pub data Part : Type 0 where
-  -- they are this number: "Bits 31-29 = 000"
+  -- they are this number
   is : (hi lo value : ℕ) → Part
-  -- they hold a number: "Count bits 28-18"
+  -- they hold a number, such as a count
   carries : (hi lo : ℕ) → Part
-  -- they hold a method or an address, whose other bits are 0: "target bits 28-2"
+  -- W9: they hold a method or an address, in place: its other bits are 0
   address : (hi lo : ℕ) → Part
-  -- they "are ignored and written as 0"
+  -- W14: nobody looks at them, and they are written as 0
   spare : (hi lo : ℕ) → Part
 
 -- whether the bits of a word are what the parts say
@@ -28,7 +28,7 @@ hasBits (carries hi lo ∷ ps) w = hasBits ps w
 hasBits (address hi lo ∷ ps) w = hasBits ps w
 hasBits (spare hi lo ∷ ps) w = hasBits ps w
 
--- the numbers that a word carries
+-- W9: the numbers that a word carries, those of an address in place
 unfoldable pub numbersIn : List Part → ℕ → List ℕ
 numbersIn [] w = []
 numbersIn (is hi lo v ∷ ps) w = numbersIn ps w
@@ -36,7 +36,7 @@ numbersIn (carries hi lo ∷ ps) w = bits hi lo w ∷ numbersIn ps w
 numbersIn (address hi lo ∷ ps) w = bits hi lo w * 2 ^ lo ∷ numbersIn ps w
 numbersIn (spare hi lo ∷ ps) w = numbersIn ps w
 
--- whether the numbers fit the parts: "a number wider than its field, or an address or method not a multiple of 4"
+-- X4: whether the numbers fit the parts, and an address has no bit below its part
 unfoldable pub numbersFit : List Part → List ℕ → Bool
 numbersFit [] ns = true
 numbersFit (is hi lo v ∷ ps) ns = numbersFit ps ns
@@ -46,7 +46,7 @@ numbersFit (address hi lo ∷ ps) [] = false
 numbersFit (address hi lo ∷ ps) (n ∷ ns) = ltb n (2 ^ (hi + 1)) && eqb (n % 2 ^ lo) 0 && numbersFit ps ns
 numbersFit (spare hi lo ∷ ps) ns = numbersFit ps ns
 
--- the word whose parts hold these numbers
+-- X1: the word whose parts hold these numbers
 unfoldable pub wordWith : List Part → List ℕ → ℕ
 wordWith [] ns = 0
 wordWith (is hi lo v ∷ ps) ns = v * 2 ^ lo + wordWith ps ns

@@ -21,9 +21,9 @@ use Rattle.word.specs.declared.reading.Reading.the-variants.{Increasing,
 use Rattle.word.specs.declared.reading.Place.{Place}
 use Rattle.word.specs.declared.writing.Written.{Written}
 
--- The conditions of the refusals, in plain terms, with their numbers in the paper's table.
+-- The conditions of the refusals, in plain terms, each with its number (docs/CARD.md, R).
 
--- 1 LEVEL, 2 MODE, 4 SLI: what refuses a setting
+-- R1, R2, R4: what refuses a setting
 abbrev pub settingPlain : Setting → List PlainCase
 settingPlain s =
     1 if (5 < s .level .number)
@@ -31,7 +31,7 @@ settingPlain s =
     ∷ 4 if ((s .sli ≡ true) × (s .level .number < 3))
     ∷ []
 
--- every number of a reading is within its width, and a method or a target is a multiple of 4
+-- X4: every number of a reading is within its width, and a method or a target is a multiple of 4
 abbrev pub Within : Reading → Type 0
 Within (Increasing c s m) = (c < 0x800) × (s < 8) × (m < 0x2000) × (m % 4 ≡ 0)
 Within (NonIncreasing c s m) = (c < 0x800) × (s < 8) × (m < 0x2000) × (m % 4 ≡ 0)
@@ -44,7 +44,7 @@ Within (Call t) = (t < 0x100000000) × (t % 4 ≡ 0)
 Within Reserved = Unit {0}
 Within (Refusing r) = Unit {0}
 
--- a command may be used at a setting
+-- W11, X5: a command may be used at a setting; what is no command, nowhere
 abbrev pub Available : Setting → Reading → Type 0
 Available s (Increasing c b m) = Unit {0}
 Available s (NonIncreasing c b m) = 1 ≤ s .level .number
@@ -57,34 +57,37 @@ Available s (Call t) = (2 ≤ s .level .number) × (s .mode .number ≡ 0)
 Available s Reserved = ⊥
 Available s (Refusing r) = ⊥
 
--- how many words a command is written as: the long form, number 5, has two
+-- X1, W15: how many words a command is written as: the long form, number 5, has two
 abbrev pub size : Reading → ℕ
 size r = choose (eqb (number r) 5) 2 1
 
--- 8 SIZE, of lent words
+-- R8: lent words that are too many
 abbrev pub sizePlain : List ℕ → List PlainCase
 sizePlain ws = 8 if (1048576 < length ws) ∷ []
 
--- 10 FIELD, 12 FORM, 11 ROOM: what refuses a command and an output
+-- R10, R12, R11: what refuses a command and an output
 abbrev pub writePlain : Setting → Reading → List ℕ → List PlainCase
 writePlain s r out = 10 if (Within r → ⊥) ∷ 12 if (Available s r → ⊥) ∷ 11 if (length out < size r) ∷ []
 
--- Promise 1. A refusal is given exactly when the table says: an answer is refusal n if and only if n's condition holds
--- and none before it in the paper's order does.
+-- Promise 1. R21: a refusal is given exactly when the table says: an answer is refusal n if and only if n's condition holds and
+-- none before it in the function's order does.
 pub record Refused : Type 0 where
+  -- R22: a setting by itself, and a word
   pub check : (s : Setting) (a : Check) → Checks s a → (n : ℕ) → checkRefusal a ≡ some n ↔ FirstIs (settingPlain s) n
   pub read : (s : Setting) (w next : ℕ) (a : Reading) → Reads s w next a → (n : ℕ) → readingRefusal a ≡ some n ↔ FirstIs (settingPlain s) n
+  -- R23: a word at a place
   pub read-at :
       (s : Setting) (ws : List ℕ) (p : ℕ) (a : Place)
       → ReadsAt s ws p a
       → (n : ℕ)
       → placeRefusal a ≡ some n ↔ FirstIs (settingPlain s ++ sizePlain ws) n
+  -- R24: the writer
   pub write :
       (s : Setting) (r : Reading) (out : List ℕ) (a : Written) (exit : List ℕ)
       → Writes s r out a exit
       → (n : ℕ)
       → writtenRefusal a ≡ some n ↔ FirstIs (settingPlain s ++ writePlain s r out) n
-  -- "No refusal writes lent memory."
+  -- R31: and then the output is as it was
   pub unwritten :
       (s : Setting) (r : Reading) (out : List ℕ) (a : Written) (exit : List ℕ)
       → Writes s r out a exit
@@ -105,7 +108,7 @@ pub record One : Type 0 where
   pub present : (level : Level) (n : ℕ) (a b : Bool) → Presents level n a → Presents level n b → a ≡ b
   pub word-at : (bytes : List ℕ) (p a b : ℕ) → LentAt bytes p a → LentAt bytes p b → a ≡ b
 
--- Promise 2, first half: what the writer writes reads back as the same command, and it writes nothing else.
+-- Promise 2, first half. X1, X2, X3: what the writer writes reads back as the same command, and it writes nothing else.
 pub record Echo (s : Setting) (r : Reading) (out : List ℕ) (a : Written) (exit : List ℕ) : Type 0 where
   pub count : writtenValues a ≡ size r ∷ []
   -- the first word, read at the same setting with the second after it, or with any word where the command has one
@@ -113,6 +116,7 @@ pub record Echo (s : Setting) (r : Reading) (out : List ℕ) (a : Written) (exit
   pub length-stays : length exit ≡ length out
   pub tail-stays : drop (size r) exit ≡ drop (size r) out
 
+-- X3: so it does, where it refuses nothing
 abbrev pub ReadBack : Type 0
 ReadBack =
     (s : Setting) (r : Reading) (out : List ℕ) (a : Written) (exit : List ℕ)
@@ -122,10 +126,11 @@ ReadBack =
 
 -- Promise 2, second half: words that read as a command (numbers 1 to 8) are written back, at that setting and into every
 -- output long enough, as the same words followed by the old tail, but for the upper eight bits of a long count: its second
--- word is the low 24 bits of the next.
+-- word is the low 24 bits of the next (W14).
 abbrev pub sameWords : Reading → ℕ → ℕ → List ℕ
 sameWords r w next = w ∷ choose (eqb (number r) 5) (next % 0x1000000 ∷ []) []
 
+-- X3: so they are
 abbrev pub WriteBack : Type 0
 WriteBack =
     (s : Setting) (w next : ℕ) (r : Reading)
@@ -141,14 +146,14 @@ WriteBack =
 abbrev pub Told : Type 0
 Told = (x y : Reading) → number x ≡ number y → values x ≡ values y → x ≡ y
 
--- How many parameters follow a command's own words: its count, which a run (numbers 1 and 2) has first and a long form (5) last
+-- W15: how many parameters follow a command's own words: its count, which a run (numbers 1 and 2) has first and a long form (5) last
 -- of its values. No other reading has any.
 pub record Parameters : Type 0 where
   pub run : (r : Reading) (c b m : ℕ) → (number r ≡ 1) ⊎ (number r ≡ 2) → values r ≡ c ∷ b ∷ m ∷ [] → parameterCount r ≡ c
   pub long : (r : Reading) (b m c : ℕ) → number r ≡ 5 → values r ≡ b ∷ m ∷ c ∷ [] → parameterCount r ≡ c
   pub other : (r : Reading) → (number r ≡ 3) ⊎ (number r ≡ 4) ⊎ (6 ≤ number r) → parameterCount r ≡ 0
 
--- What stands at a place of lent words is what `read` reads there, with the word after it, or 0 after the last; past the
+-- W16: what stands at a place of lent words is what `read` reads there, with the word after it, or 0 after the last; past the
 -- last word nothing stands.
 pub record AtPlace : Type 0 where
   pub inside :
@@ -160,12 +165,11 @@ pub record AtPlace : Type 0 where
       → placeValues a ≡ number r ∷ values r
   pub past : (s : Setting) (ws : List ℕ) (p : ℕ) (a : Place) → ReadsAt s ws p a → length ws ≤ p → placeValues a ≡ []
 
--- Every number of a reading is within its width.
+-- X4: every number of a reading is within its width.
 abbrev pub Widths : Type 0
 Widths = (s : Setting) (w next : ℕ) (r : Reading) → Reads s w next r → Within r
 
--- Which methods a level has, by their numbers, a fourth of their byte numbers: "0x00 always; 0x10 to 0x24 at level 5; 0x50 from 1;
--- 0x60 to 0x6c from 2; 0x80 from 3", and every method from 0x100 up.
+-- W18: which methods a level has, by their numbers, a fourth of their byte numbers. From 0x100 up every level has all.
 abbrev pub Specials : Type 0
 Specials =
     (level : Level) (n : ℕ) (a : Bool)
@@ -178,8 +182,8 @@ Specials =
     ⊎ ((0x18 ≤ n) × (n ≤ 0x1b) × (2 ≤ level .number))
     ⊎ ((n ≡ 0x20) × (3 ≤ level .number)))
 
--- "words little-endian": the word at a place of lent bytes has the lowest byte first, and past the last whole word stands 0; there are
--- as many words as whole ones among the bytes.
+-- W17: the word at a place of lent bytes has the lowest byte first, and past the last whole word stands 0; there are as many words as
+-- whole ones among the bytes.
 pub record LittleEndian : Type 0 where
   pub inside :
       (bytes : List ℕ) (p a : ℕ)

@@ -13,7 +13,7 @@ use Rattle.word.specs.declared.reading.Reading.the-variants.{Increasing,
 use Rattle.word.specs.declared.reading.Place.{Place}
 use Rattle.word.specs.declared.reading.Place.the-variants as place
 
--- a reading's number: its form's place in the paper's list, then 'reserved' and the refusal of a setting
+-- W12, W13: a reading's number: its form's, 1 to 8 in the order of the table; then 'reserved' and the refusal of a setting
 unfoldable pub number : Reading → ℕ
 number (Increasing c s m) = 1
 number (NonIncreasing c s m) = 2
@@ -43,7 +43,7 @@ values (Call t) = t ∷ []
 values Reserved = []
 values (Refused r) = r .number ∷ []
 
--- how many parameters follow a command's own words: its count
+-- W15: how many parameters follow a command's own words: its count
 unfoldable pub parameterCount : Reading → ℕ
 parameterCount (Increasing c s m) = c
 parameterCount (NonIncreasing c s m) = c
@@ -56,19 +56,19 @@ parameterCount (Call t) = 0
 parameterCount Reserved = 0
 parameterCount (Refused r) = 0
 
--- the command of a form that a word holds; `next` is the word after it
+-- W5: the command of a form that a word holds; `next` is the word after it, which the long form alone looks at
 unfoldable pub commandIn : Form → ℕ → ℕ → Reading
 commandIn f w next = (f .command) (numbersIn (f .word) w ++ numbersIn (f .next) next)
 
--- the command of the form whose bits the word has, where that form may be used
+-- W12: the command of the form whose bits the word has, where that form may be used; else it is reserved
 unfoldable pub readingOf : Setting → ℕ → ℕ → Reading
 readingOf s w next = choose (usable s (formOf w)) (commandIn (formOf w) w next) Reserved
 
--- "Reading a word, listing: 1, 2, 4, 8": a word by itself has no size
+-- W13, R22: a word by itself, at any setting
 unfoldable pub readOf : Setting → ℕ → ℕ → Reading
 readOf s w next = refusedOr Refused (first (settingCases s)) (readingOf s w next)
 
--- "Reading a word, listing: 1, 2, 4, 8", at a place of lent words. After the last word stands 0.
+-- W16, R23: the word at a place of lent words
 unfoldable pub readAtOf : Setting → List ℕ → ℕ → Place
 readAtOf s ws p =
     refusedOr place.Refused (first (settingCases s ++ sizeCases (length ws)))

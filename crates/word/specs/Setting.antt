@@ -1,4 +1,4 @@
--- The paper's 'Refusal numbers': the table, and the check of a setting.
+-- The refusals by number (docs/CARD.md, R), the conditions that settings and sizes meet, and the check of a setting.
 use Prim.Native.Nat.{ℕ}
 use mathlib.Core.Bool.{Bool, _&&_, _||_}
 use mathlib.Core.List.{List, [], _∷_}
@@ -10,7 +10,7 @@ use Rattle.word.specs.declared.setting.Setting.{Setting}
 use Rattle.word.specs.declared.setting.Check.{Check}
 use Rattle.word.specs.declared.setting.Check.the-variants.{Fine, Refused}
 
--- the numbers of the table's rows
+-- the refusals' numbers; each condition stands where what it asks about is defined
 abbrev pub LEVEL : ℕ
 LEVEL = 1
 
@@ -50,23 +50,23 @@ FORM = 12
 abbrev pub STATE : ℕ
 STATE = 13
 
--- LEVEL: "level above 5"
+-- R1: there are the levels 0 to 5
 abbrev pub levelRefused : ℕ → Bool
 levelRefused level = ltb 5 level
 
--- MODE: "mode above 1, or IB below level 4"
+-- R2: there are two modes, and IB only from level 4 on
 abbrev pub modeRefused : ℕ → ℕ → Bool
 modeRefused level mode = ltb 1 mode || (eqb mode 1 && ltb level 4)
 
--- SLI: "SLI enabled below level 3"
+-- R4: SLI can be on from level 3 on
 abbrev pub sliRefused : ℕ → Bool → Bool
 sliRefused level sli = sli && ltb level 3
 
--- SIZE: "pushbuffer or semaphore memory over 1,048,576 words"
+-- R8: how many words are too many
 abbrev pub sizeRefused : ℕ → Bool
 sizeRefused words = ltb 1048576 words
 
--- "1, 2, 4": what refuses a setting, in the order that every order of the paper keeps
+-- R22: what refuses a setting, in the order that every other order keeps
 abbrev pub settingCases : Setting → List Case
 settingCases s =
     LEVEL when levelRefused (s .level .number)
@@ -74,14 +74,15 @@ settingCases s =
     ∷ SLI when sliRefused (s .level .number) (s .sli)
     ∷ []
 
--- "8", of lent words
+-- R23: what comes after these for lent words
 abbrev pub sizeCases : ℕ → List Case
 sizeCases words = SIZE when sizeRefused words ∷ []
 
--- an answer: the refusal where a case held, else what is done
+-- R21: an answer: the refusal where a case held, else what is done
 unfoldable pub refusedOr : {A : Type 0} → (Refusal → A) → Option ℕ → A → A
 refusedOr refuse none a = a
 refusedOr refuse (some n) a = refuse (record { number = n })
 
+-- R22: a setting by itself
 unfoldable pub checkOf : Setting → Check
 checkOf s = refusedOr Refused (first (settingCases s)) Fine

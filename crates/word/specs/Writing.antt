@@ -15,16 +15,16 @@ use Rattle.word.specs.declared.reading.Reading.{Reading}
 use Rattle.word.specs.declared.writing.Written.{Written}
 use Rattle.word.specs.declared.writing.Written.the-variants as written
 
--- the second word, where the form has one
+-- X1: the second word, where the form has one
 unfoldable pub nextWord : List Part → List ℕ → List ℕ
 nextWord [] ns = []
 nextWord (p ∷ ps) ns = wordWith (p ∷ ps) ns ∷ []
 
--- "The writer writes a command's first word and a long form's count word"
+-- X1, W15: the words that are a command's own
 unfoldable pub ownWords : Reading → List ℕ
 ownWords r = wordWith (form r .word) (values r) ∷ nextWord (form r .next) (drop (room (form r .word)) (values r))
 
--- "10, 12, 11": what refuses a command and an output of so many words
+-- R10, R12, R11, X5: what refuses a command and an output of so many words, in this order
 abbrev pub writeCases : Setting → Reading → ℕ → List Case
 writeCases s r space =
     FIELD when not (numbersFit (form r .word ++ form r .next) (values r))
@@ -32,11 +32,11 @@ writeCases s r space =
     ∷ ROOM when ltb space (length (ownWords r))
     ∷ []
 
--- "Writer: 1, 2, 4, 10, 12, 11"
+-- R24: what the writer answers: a refusal, or how many words it wrote
 unfoldable pub writeOf : Setting → Reading → ℕ → Written
 writeOf s r space = refusedOr written.Refused (first (settingCases s ++ writeCases s r space)) (written.Words (length (ownWords r)))
 
--- "No refusal writes lent memory"; else the words stand at the front, and "later words of the output stay"
+-- X2, R31: the output after it: the words at its front and the rest as it was, or all of it as it was
 unfoldable pub outAfter : Written → Reading → List ℕ → List ℕ
 outAfter (written.Refused n) r out = out
 outAfter (written.Words k) r out = sets out 0 (ownWords r)

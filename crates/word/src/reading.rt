@@ -175,7 +175,7 @@ fn run(word: u32) -> Reading
     Reading::Reserved
 }
 
-// A word with other bits 17-16 that is no old jump: what the paper gives by its upper half.
+// A word with other bits 17-16 that is no old jump: the forms that are told by their upper half.
 fn by_upper_half(word: u32, next: u32) -> Reading
     requires { ⌜ (bits 1 0 word ≡ 0) × (bits 17 16 word ≡ 0 → ⊥) × (bits 31 29 word ≡ 1 → ⊥) ⌝ }
     ensures { λ r. ⌜ r ≡ commandIn (formOf word) word next ⌝ }

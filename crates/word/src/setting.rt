@@ -33,7 +33,7 @@ impl Mode {
     pub const IB: Mode = Mode { number: 1 };
 }
 
-// Why an input is refused: a row of the paper's table.
+// Why an input is refused: by its number (docs/CARD.md, R).
 pub struct Refusal {
     pub number: u8,
 }

@@ -19,7 +19,7 @@ pub enum Written {
     Refused { refusal: Refusal },
 }
 
-// Writes a command's first word, and a long form's count word, at the front of the output, or
+// Writes the words that are a command's own, of a long form two, at the front of the output, or
 // refuses and writes nothing.
 pub fn write(setting: Setting, command: Reading, out: &mut [u32]) -> Written
     ensures { λ r. ⌜ Writes setting command (now (out .entry)) r (now (out .exit)) ⌝ }
