@@ -5,7 +5,7 @@
  *   2 LARGE  level, mode, SLI, place to start from, how many words (at most 1,048,580), the word that all of
  *            them are | one answer
  * An answer has six words:
- *   1 command, 2 past the last word, 3 at a reserved word, 4 at a command whose words run short, 5 refused
+ *   1 command, 2 past the last word, 3 at a reserved word, 4 at a command short of its words, 5 refused
  *   the reading's number, 0 without a command: 1 increasing, 2 non-increasing, 3 SLI conditional, 4 return,
  *     5 long, 6 old jump, 7 jump, 8 call
  *   its three values, those not used 0; those of a refusal are its number and 0; an end has none

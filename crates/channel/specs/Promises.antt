@@ -45,7 +45,7 @@ pub record WellFormed (c : Channel) : Type 0 where
 
 -- The conditions of the refusals, in plain terms, each with its number (docs/CARD.md, R).
 
--- R5: a table that has no whole entries, or too many
+-- R5: a table whose last entry isn't whole, or that has too many
 abbrev pub BadTable : List ℕ → Type 0
 BadTable t = (length t % 4 ≡ 0 → ⊥) ⊎ (4096 < length t)
 

@@ -57,7 +57,7 @@ abbrev pub IsCommand : Reading → Item → Type 0
 IsCommand r a = (number a ≡ 1) × (values a ≡ reading.number r ∷ reading.values r)
 
 -- K2, K3, W15: which item, where nothing is refused, by the reading of the word at the place with the word after it, or 0 after the
--- last: 2 past the last word, 3 at a reserved word (a reading's number 9), 4 at a command whose words run short, else the command. A
+-- last: 2 past the last word, 3 at a reserved word (a reading's number 9), 4 at a command that the words are too few for, else the command. A
 -- command has its own words (`size`) and its parameters.
 pub record Items : Type 0 where
   pub past : (s : Setting) (ws : List ℕ) (p : ℕ) (a : Listed) → ListsAt s ws p a → itemRefusal (a .item) ≡ none → number (a .item) ≡ 2 ↔ length ws ≤ p
@@ -120,6 +120,6 @@ pub data InTurn (s : Setting) (ws : List ℕ) : ℕ → List Reading → Type 0 
       → InTurn s ws (a .place) rs
       → InTurn s ws p (r ∷ rs)
 
--- K5: so it does
+-- K5: words so made are listed as these commands, in turn
 abbrev pub GivesBack : Type 0
 GivesBack = (s : Setting) (rs : List Reading) (ws : List ℕ) → (SomeHolds (settingPlain s) → ⊥) → length ws ≤ 1048576 → Made s rs ws → InTurn s ws 0 rs

@@ -175,7 +175,7 @@ StoppedBy p m q = Failed p (q .error) q ⊎ Failed (withEngine p (m .subchannel)
 -- The rules as sentences, of any relation R between what a puller is given with a method and what it leaves: what changes, and
 -- nothing else does (P3). Where there is an error, no semaphore word changes (P21).
 pub record Sentences (R : Level → Puller → Method → PullerLoan → Taken → List ℕ → Type 0) : Type 0 where
-  -- P4: bound
+  -- P4: an engine is bound
   pub bind :
       (level : Level) (p : Puller) (m : Method) (l : PullerLoan) (exit : List ℕ) (o : Object) (r : Taken)
       → R level p m l r exit
@@ -183,7 +183,7 @@ pub record Sentences (R : Level → Puller → Method → PullerLoan → Taken �
       → Names (l .table) (m .parameter) o
       → (o .engine ≡ 0 → ⊥)
       → Leaves (withLast (withEngine p (m .subchannel) (o .engine)) (o .engine)) (telling kind.Bind m (o .address)) r × (exit ≡ l .semaphores)
-  -- P5: engine 0
+  -- P5: engine 0 is bound, and stops the channel
   pub bind-software :
       (level : Level) (p : Puller) (m : Method) (l : PullerLoan) (exit : List ℕ) (o : Object) (r : Taken)
       → R level p m l r exit
@@ -191,14 +191,14 @@ pub record Sentences (R : Level → Puller → Method → PullerLoan → Taken �
       → Names (l .table) (m .parameter) o
       → o .engine ≡ 0
       → Fails (withEngine p (m .subchannel) 0) cause.EmptySubchannel r × (exit ≡ l .semaphores)
-  -- P2, P19: no object, at each method that looks one up
+  -- P2, P19: a handle names no object, at each method that looks one up
   pub no-hash :
       (level : Level) (p : Puller) (m : Method) (l : PullerLoan) (exit : List ℕ) (r : Taken)
       → R level p m l r exit
       → ((m .method ≡ 0x00) ⊎ (m .method ≡ 0x60) ⊎ ((0x180 ≤ m .method) × (m .method ≤ 0x1fc)))
       → NamesNone (l .table) (m .parameter)
       → Fails p cause.NoHash r × (exit ≡ l .semaphores)
-  -- P6: the reference counter
+  -- P6: the reference counter is set
   pub ref :
       (level : Level) (p : Puller) (m : Method) (l : PullerLoan) (exit : List ℕ) (r : Taken)
       → R level p m l r exit
@@ -216,7 +216,7 @@ pub record Sentences (R : Level → Puller → Method → PullerLoan → Taken �
       → R level p m l r exit
       → Unnamed (m .method)
       → Leaves p (telling kind.Event m (m .parameter)) r × (exit ≡ l .semaphores)
-  -- P9: not fit for semaphores
+  -- P9: an object is not fit for semaphores
   pub dma-unfit :
       (level : Level) (p : Puller) (m : Method) (l : PullerLoan) (exit : List ℕ) (o : Object) (r : Taken)
       → R level p m l r exit
@@ -224,7 +224,7 @@ pub record Sentences (R : Level → Puller → Method → PullerLoan → Taken �
       → Names (l .table) (m .parameter) o
       → Unfit level o
       → Fails p cause.Semaphore1 r × (exit ≡ l .semaphores)
-  -- P10: bound for semaphores
+  -- P10: or it is bound for them
   pub dma :
       (level : Level) (p : Puller) (m : Method) (l : PullerLoan) (exit : List ℕ) (o : Object) (r : Taken)
       → R level p m l r exit
@@ -275,14 +275,14 @@ pub record Sentences (R : Level → Puller → Method → PullerLoan → Taken �
       → m .parameter % 4 ≡ 0
       → m .parameter / 2 ^ 16 % 2 ^ 16 ≡ 0
       → Leaves (withOffset p (m .parameter) true) (telling kind.Offset m (m .parameter)) r × (exit ≡ l .semaphores)
-  -- P13: no semaphore to acquire or release
+  -- P13: there is no semaphore to acquire or release
   pub unready :
       (level : Level) (p : Puller) (m : Method) (l : PullerLoan) (exit : List ℕ) (r : Taken)
       → R level p m l r exit
       → ((m .method ≡ 0x68) ⊎ (m .method ≡ 0x6c))
       → Unready level p
       → Fails p cause.Semaphore2 r × (exit ≡ l .semaphores)
-  -- P14: past the end of the memory
+  -- P14: its word is past the end of the memory
   pub past-end :
       (level : Level) (p : Puller) (m : Method) (l : PullerLoan) (exit : List ℕ) (e : PullerError) (r : Taken)
       → R level p m l r exit
@@ -290,7 +290,7 @@ pub record Sentences (R : Level → Puller → Method → PullerLoan → Taken �
       → Ready level p
       → PastEnd level p (l .semaphores) e
       → Fails p e r × (exit ≡ l .semaphores)
-  -- P15: equal, and it goes on
+  -- P15: it is equal, and the acquire goes on
   pub acquire :
       (level : Level) (p : Puller) (m : Method) (l : PullerLoan) (exit : List ℕ) (r : Taken)
       → R level p m l r exit
@@ -299,7 +299,7 @@ pub record Sentences (R : Level → Puller → Method → PullerLoan → Taken �
       → Inside p (l .semaphores)
       → wordIn p (l .semaphores) ≡ m .parameter
       → Leaves p (telling kind.Acquire m (m .parameter)) r × (exit ≡ l .semaphores)
-  -- P15: unequal, and it waits
+  -- P15: it is not, and the acquire waits
   pub wait :
       (level : Level) (p : Puller) (m : Method) (l : PullerLoan) (exit : List ℕ) (r : Taken)
       → R level p m l r exit
@@ -308,7 +308,7 @@ pub record Sentences (R : Level → Puller → Method → PullerLoan → Taken �
       → Inside p (l .semaphores)
       → (wordIn p (l .semaphores) ≡ m .parameter → ⊥)
       → Leaves (withAcquire p true (m .parameter)) (telling kind.Wait m (m .parameter)) r × (exit ≡ l .semaphores)
-  -- P17: that word is written
+  -- P17: a release writes it
   pub release :
       (level : Level) (p : Puller) (m : Method) (l : PullerLoan) (exit : List ℕ) (r : Taken)
       → R level p m l r exit
