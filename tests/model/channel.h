@@ -1,5 +1,4 @@
-/* A model of the command channel, written from the rules of docs/CARD.md alone, never from the code: opening
- * it, setting put, and one step. */
+/* A model of the command channel, written without a look at the code: opening it, setting put, and one step. */
 #ifndef MODEL_CHANNEL_H
 #define MODEL_CHANNEL_H
 

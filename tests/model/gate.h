@@ -1,5 +1,5 @@
-/* A model of the gatekeeper, written from the rules of docs/CARD.md alone, never from the code: the judgement
- * of words with their map and permit list, and what one pair of a place and a state comes to. */
+/* A model of the gatekeeper, written without a look at the code: the judgement of words with their map and
+ * permit list, and what one pair of a place and a state comes to. */
 #ifndef MODEL_GATE_H
 #define MODEL_GATE_H
 

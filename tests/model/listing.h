@@ -1,5 +1,4 @@
-/* A model of the listing reader, written from the rules of docs/CARD.md alone, never from the code: the
- * commands of lent words in turn. */
+/* A model of the listing reader, written without a look at the code: the commands of lent words in turn. */
 #ifndef MODEL_LISTING_H
 #define MODEL_LISTING_H
 

@@ -1,5 +1,4 @@
-/* A model of the path rule, written from the rules of docs/CARD.md alone, never from the code: which pairs
- * are reached, and what is bad. */
+/* A model of the path rule, written without a look at the code: which pairs are reached, and what is bad. */
 #ifndef MODEL_PATH_H
 #define MODEL_PATH_H
 

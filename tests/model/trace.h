@@ -1,5 +1,4 @@
-/* A model of the program that prints what a channel does with words, written from the rules of docs/CARD.md
- * alone, never from the code. */
+/* A model of the program that prints what a channel does with words, written without a look at the code. */
 #ifndef MODEL_TRACE_H
 #define MODEL_TRACE_H
 

@@ -1,5 +1,5 @@
-/* A model of command words, written from the rules of docs/CARD.md alone, never from the code: what a word
- * reads as, which word a command is written as, and which methods below 0x100 a level has. */
+/* A model of command words, written without a look at the code: what a word reads as, which word a command is
+ * written as, and which methods below 0x100 a level has. */
 #ifndef MODEL_WORD_H
 #define MODEL_WORD_H
 
