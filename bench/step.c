@@ -43,18 +43,20 @@ static void open_channel(struct channel *channel, uint32_t level, size_t count)
     model_set_put(channel, (uint32_t)(4 * count));
 }
 
-/* Makes the steps, counts their kinds and gives the last read address. A channel that is idle, stopped or
- * refused is opened again, so that few words give many steps too. */
+/* Makes the steps, counts their kinds and gives the last read address; the clock counts the steps. A channel
+ * that is idle, stopped or refused is opened again, so that few words give many steps too. */
 static uint64_t make_steps(uint32_t level, uint32_t steps, size_t count, uint32_t *counts)
 {
     uint32_t semaphores[SEMAPHORES] = {0};
-    struct lent lent = {words, count, NULL, 0, table, ENTRY_WORDS, semaphores, SEMAPHORES};
+    struct lent lent = {words, count, NULL, 0, table, ENTRY_WORDS, semaphores, SEMAPHORES, 0};
     struct channel channel;
 
     open_channel(&channel, level, count);
     for (uint32_t i = 0; i < steps; i++) {
-        uint32_t kind = model_step(&channel, &lent).kind;
+        uint32_t kind;
 
+        lent.clock = i;
+        kind = model_step(&channel, &lent).kind;
         counts[kind]++;
         if (kind == 0 || kind == KIND_IDLE || kind == KIND_STOPPED)
             open_channel(&channel, level, count);

@@ -46,14 +46,16 @@ static bool indices_fit(const struct channel *channel)
     return channel->ib_get < UINT32_C(1) << order && channel->ib_put < UINT32_C(1) << order;
 }
 
-/* R32: the widths that are the same in both modes. */
+/* R32, R35: the widths that are the same in both modes. A long address is narrower than its type, and may lie
+ * between words. */
 static bool numbers_fit(const struct channel *channel)
 {
     for (unsigned i = 0; i < SUBCHANNELS; i++)
         if (channel->engines[i] >= 1 << 5)
             return false;
     return channel->count < 1 << 24 && channel->setup.sli_mask < 1 << 12 && channel->method < 1 << 11 &&
-           channel->last_engine < 1 << 5 && channel->subchannel < 1 << 3;
+           channel->last_engine < 1 << 5 && channel->subchannel < 1 << 3 &&
+           channel->semaphore_address < UINT64_C(1) << 40;
 }
 
 /* R13, R32, R33, R34: what STATE asks of a record, and nothing else. */
@@ -284,6 +286,15 @@ static bool is_semaphore_set(const struct channel *channel)
     return is_before_nv50(channel) ? channel->dma_semaphore != 0 : channel->offset_valid;
 }
 
+/* P15, P30: an acquire that isn't met at once is kept, to be tried again. */
+static struct answer wait_for(struct channel *channel, struct method method, uint32_t mode, uint32_t value)
+{
+    channel->acquire_active = true;
+    channel->acquire_value = value;
+    channel->acquire_mode = mode;
+    return taken(KIND_WAIT, method, method.parameter);
+}
+
 /* P13, P14, P15: 0x68 acquires. Whether the semaphore is set is asked first. */
 static struct answer pull_acquire(struct channel *channel, const struct lent *lent, struct method method)
 {
@@ -296,9 +307,7 @@ static struct answer pull_acquire(struct channel *channel, const struct lent *le
     /* P15: nothing is stored where the value is found. */
     if (*word == method.parameter)
         return taken(KIND_ACQUIRE, method, method.parameter);
-    channel->acquire_active = true;
-    channel->acquire_value = method.parameter;
-    return taken(KIND_WAIT, method, method.parameter);
+    return wait_for(channel, method, ACQUIRE_OLD, method.parameter);
 }
 
 /* P13, P14, P17: 0x6c releases. Whether the semaphore is set is asked first. */
@@ -310,12 +319,93 @@ static struct answer pull_release(struct channel *channel, const struct lent *le
         return stop_puller(channel, PULLER_SEMAPHORE_2);
     if (word == NULL)
         return stop_past_end(channel);
-    /* P17: the one word that a step writes. */
+    /* P17: the one word that it writes. */
     *word = method.parameter;
     return taken(KIND_RELEASE, method, method.parameter);
 }
 
-/* P3: the puller takes a method that the level has. */
+/* ---- Long semaphores ---- */
+
+/* P25: 0x10 gives bits 39-32 of the address. */
+static struct answer pull_address_high(struct channel *channel, struct method method)
+{
+    if (method.parameter > 255)
+        return stop_puller(channel, PULLER_SEMAPHORE_3);
+    channel->semaphore_address &= UINT64_C(0xffffffff);
+    channel->semaphore_address |= (uint64_t)method.parameter << 32;
+    return taken(KIND_EVENT, method, method.parameter);
+}
+
+/* P26: 0x14 gives bits 31-0 of it. */
+static struct answer pull_address_low(struct channel *channel, struct method method)
+{
+    if (method.parameter % 4 != 0)
+        return stop_puller(channel, PULLER_SEMAPHORE_1);
+    channel->semaphore_address &= UINT64_C(0xff00000000);
+    channel->semaphore_address |= method.parameter;
+    return taken(KIND_EVENT, method, method.parameter);
+}
+
+/* P29, P30, P31: so many semaphore words from the long address on; NULL where not all of them are lent. The
+ * place has up to 38 bits, and is not cut to an index. */
+static uint32_t *long_words(const struct channel *channel, const struct lent *lent, uint64_t count)
+{
+    uint64_t place = channel->semaphore_address / 4;
+
+    return place + count <= lent->semaphore_count ? lent->semaphores + place : NULL;
+}
+
+/* P16, P30, P31: whether a word lets an acquire pass; a difference counts as negative from 2^31 on. */
+static bool passes(uint32_t mode, uint32_t word, uint32_t value)
+{
+    return mode == ACQUIRE_GREATER ? word - value < UINT32_C(1) << 31 : word == value;
+}
+
+/* P29: the trigger's release, which writes four words or none. */
+static struct answer pull_long_release(struct channel *channel, const struct lent *lent, struct method method)
+{
+    uint32_t *words = long_words(channel, lent, LONG_WORDS);
+
+    if (words == NULL)
+        return stop_puller(channel, PULLER_SEMAPHORE_4);
+    words[0] = channel->semaphore_sequence;
+    words[1] = 0;
+    words[2] = (uint32_t)lent->clock;
+    words[3] = (uint32_t)(lent->clock >> 32);
+    return taken(KIND_RELEASE, method, method.parameter);
+}
+
+/* P30: the trigger's acquires, which store nothing where they pass. */
+static struct answer pull_long_acquire(struct channel *channel, const struct lent *lent, struct method method,
+                                       uint32_t mode)
+{
+    const uint32_t *word = long_words(channel, lent, 1);
+
+    if (word == NULL)
+        return stop_puller(channel, PULLER_SEMAPHORE_4);
+    if (passes(mode, *word, channel->semaphore_sequence))
+        return taken(KIND_ACQUIRE, method, method.parameter);
+    return wait_for(channel, method, mode, channel->semaphore_sequence);
+}
+
+/* P28: 0x1c triggers, by the whole of its parameter and whatever the memory is. */
+static struct answer pull_trigger(struct channel *channel, const struct lent *lent, struct method method)
+{
+    switch (method.parameter) {
+    case TRIGGER_EQUAL:
+        return pull_long_acquire(channel, lent, method, ACQUIRE_EQUAL);
+    case TRIGGER_RELEASE:
+        return pull_long_release(channel, lent, method);
+    case TRIGGER_GREATER:
+        return pull_long_acquire(channel, lent, method, ACQUIRE_GREATER);
+    default:
+        return stop_puller(channel, PULLER_SEMAPHORE_2);
+    }
+}
+
+/* ---- Any method ---- */
+
+/* P3: the puller takes a method that the level has; those of long semaphores come from level 5 alone. */
 static struct answer pull(struct channel *channel, const struct lent *lent, struct method method)
 {
     if (method.number >= 0x100)
@@ -323,6 +413,16 @@ static struct answer pull(struct channel *channel, const struct lent *lent, stru
     switch (method.number) {
     case 0x00:
         return pull_bind(channel, lent, method);
+    case 0x10:
+        return pull_address_high(channel, method);
+    case 0x14:
+        return pull_address_low(channel, method);
+    case 0x18:
+        /* P27: the long semaphore's value. */
+        channel->semaphore_sequence = method.parameter;
+        return taken(KIND_EVENT, method, method.parameter);
+    case 0x1c:
+        return pull_trigger(channel, lent, method);
     case 0x50:
         /* P6: the reference counter. */
         channel->ref = method.parameter;
@@ -336,20 +436,22 @@ static struct answer pull(struct channel *channel, const struct lent *lent, stru
     case 0x6c:
         return pull_release(channel, lent, method);
     default:
-        /* P7, P8, P24: an event for 0x80 and 0x10 to 0x24; no level has others. */
+        /* P7, P8, P24: an event for 0x80, 0x20 and 0x24; no level has others. */
         return taken(KIND_EVENT, method, method.parameter);
     }
 }
 
-/* S5, P16, P21: a retry asks for the word and its value alone. It has no fields, and at an error the acquire
- * is still active. */
+/* S5, P16, P21, P31: a retry asks for the word of its own mode and for its value alone. It has no fields, and
+ * at an error the acquire is still active. */
 static struct answer retry(struct channel *channel, const struct lent *lent)
 {
-    const uint32_t *word = semaphore_word(channel, lent);
+    bool is_long = channel->acquire_mode != ACQUIRE_OLD;
+    const uint32_t *word = is_long ? long_words(channel, lent, 1) : semaphore_word(channel, lent);
 
+    /* P31: a long one past the end fails alike at every level. */
     if (word == NULL)
-        return stop_past_end(channel);
-    if (*word != channel->acquire_value)
+        return is_long ? stop_puller(channel, PULLER_SEMAPHORE_4) : stop_past_end(channel);
+    if (!passes(channel->acquire_mode, *word, channel->acquire_value))
         return plain(KIND_WAIT);
     channel->acquire_active = false;
     return plain(KIND_ACQUIRE);

@@ -49,6 +49,16 @@ enum {
  * subchannels. */
 enum { TABLE_LIMIT = 4096, ENTRY_WORDS = 4, ORDER_LIMIT = 12, SUBCHANNELS = 8 };
 
+/* R32: the modes of an acquire. An old one waits at the offset, the two of long semaphores at the long
+ * address: for its value, or for one that is greater or equal. */
+enum { ACQUIRE_OLD = 0, ACQUIRE_EQUAL = 1, ACQUIRE_GREATER = 2, ACQUIRE_MODES = 3 };
+
+/* P28: the operations of a trigger, each the whole of its parameter. */
+enum { TRIGGER_EQUAL = 1, TRIGGER_RELEASE = 2, TRIGGER_GREATER = 4 };
+
+/* P29: the words that a long release writes. */
+enum { LONG_WORDS = 4 };
+
 /* What is settled at opening. */
 struct setup {
     struct setting setting;
@@ -89,9 +99,15 @@ struct channel {
     bool acquire_active;
     uint32_t acquire_value;
     uint32_t puller_error;
+
+    /* P25, P26, P27: the long semaphore, by its byte number and its value; and the mode of the last acquire
+     * that had to wait. */
+    uint64_t semaphore_address;
+    uint32_t semaphore_sequence;
+    uint32_t acquire_mode;
 };
 
-/* The memory lent to one step; only semaphore words are written. */
+/* The memory lent to one step, of which only semaphore words are written, and the clock. */
 struct lent {
     const uint32_t *words;
     size_t word_count;
@@ -101,6 +117,7 @@ struct lent {
     size_t table_count;
     uint32_t *semaphores;
     size_t semaphore_count;
+    uint64_t clock;
 };
 
 /* R6: the answer of opening, a refusal, and for DUPLICATE the entry. */

@@ -58,15 +58,20 @@ static void run_store(struct run *run, uint32_t place, uint32_t value)
 static struct answer run_step(struct run *run, struct lens lens)
 {
     struct memory *memory = &run->memory;
-    struct lent lent = {memory->words, lens.words, memory->entries,    lens.entries,
-                        memory->table, lens.table, memory->semaphores, lens.semaphores};
+    uint64_t clock = draw_clock(run->draw);
+    struct lent lent = {memory->words, lens.words,         memory->entries, lens.entries, memory->table,
+                        lens.table,    memory->semaphores, lens.semaphores, clock};
+    struct channel before = run->channel;
     size_t header = start_operation(run);
     struct answer answer;
 
     run->step_count++;
     add(&run->operations, lens.words | lens.entries << 8 | lens.table << 16 | lens.semaphores << 24);
+    add_clock(&run->operations, clock);
     answer = add_step(run->vectors, &run->operations, header, &run->channel, &lent);
     count_one(run->vectors, STEP, answer.kind);
+    if (is_long_step(&before, &run->channel, answer))
+        count_one(run->vectors, LONG_STEP, answer.kind);
     if (answer.refusal != REFUSAL_NONE)
         count_one(run->vectors, REFUSED, answer.refusal);
     return answer;
@@ -82,6 +87,34 @@ static struct lens all(const struct run *run)
                          memory->semaphore_count};
 }
 
+/* P16, P31: the place of the word that an active acquire waits for. */
+static uint64_t awaited_place(const struct channel *channel)
+{
+    return channel->acquire_mode == ACQUIRE_OLD ? channel->semaphore_offset / 4
+                                                : channel->semaphore_address / 4;
+}
+
+/* P29, P30: how many semaphore words the operation needs that the next word is. */
+static uint32_t trigger_words(const struct run *run)
+{
+    uint64_t place = run->channel.get / 4;
+    bool is_release = place < run->memory.word_count && run->memory.words[place] == TRIGGER_RELEASE;
+
+    return is_release ? LONG_WORDS : 1;
+}
+
+/* P14, P16, P29, P30, P31: how many semaphore words the step can read or write. */
+static uint64_t semaphores_needed(const struct run *run)
+{
+    const struct channel *channel = &run->channel;
+
+    if (channel->acquire_active)
+        return awaited_place(channel) + 1;
+    if (4 * channel->method == 0x1c)
+        return channel->semaphore_address / 4 + trigger_words(run);
+    return channel->semaphore_offset / 4 + 1;
+}
+
 /* Not one word more than the step can read of each, or `short_by` of them fewer. */
 static struct lens just_enough(const struct run *run, uint32_t short_by)
 {
@@ -90,11 +123,11 @@ static struct lens just_enough(const struct run *run, uint32_t short_by)
 
     lens.words = least(channel->get / 4 + 1 - short_by, lens.words);
     lens.entries = least(channel->ib_get + 1 - short_by, lens.entries);
-    lens.semaphores = least(channel->semaphore_offset / 4 + 1 - short_by, lens.semaphores);
+    lens.semaphores = least(semaphores_needed(run) - short_by, lens.semaphores);
     return lens;
 }
 
-/* S10, E2, P2, P14: what the end of a run lacks. */
+/* S10, E2, P2, P14, P29, P30, P31: what the end of a run lacks. */
 static struct lens hungry(const struct run *run)
 {
     struct lens lens = all(run);
@@ -169,18 +202,31 @@ static void put_wrong(struct run *run)
     run_put(run, is_ib(run) ? places + more : 4 * more + 1 + more);
 }
 
-/* P16: stores what an acquire waits for, half of the time; now and then anything. */
+/* P16, P30, P31: the word that an acquire waits for, or one that lies on either side of it, far or near. */
+static uint32_t draw_awaited(struct run *run)
+{
+    static const uint32_t differences[] = {1, 0x7fffffff, 0x80000000, UINT32_MAX};
+    uint32_t value = run->channel.acquire_value;
+
+    if (run->channel.acquire_mode == ACQUIRE_OLD || draw_once_in(run->draw, 2))
+        return value;
+    return value + draw_among(run->draw, differences, sizeof differences / sizeof differences[0]);
+}
+
+/* P16, P31: stores what an acquire waits for, half of the time; now and then anything. */
 static void store(struct run *run)
 {
-    uint32_t place = run->channel.semaphore_offset / 4;
+    uint64_t place = awaited_place(&run->channel);
+    uint32_t count = run->memory.semaphore_count;
 
-    if (run->memory.semaphore_count == 0)
+    if (count == 0)
         return;
-    if (run->channel.acquire_active && place < run->memory.semaphore_count && draw_once_in(run->draw, 2)) {
-        run_store(run, place, run->channel.acquire_value);
+    if (run->channel.acquire_active && place < count && draw_once_in(run->draw, 2)) {
+        run_store(run, (uint32_t)place, draw_awaited(run));
     } else if (draw_once_in(run->draw, 40)) {
-        place = draw_below(run->draw, run->memory.semaphore_count);
-        run_store(run, place, draw_below(run->draw, 3));
+        uint32_t any = draw_below(run->draw, count);
+
+        run_store(run, any, draw_below(run->draw, 3));
     }
 }
 
@@ -192,7 +238,7 @@ static bool is_idle(const struct run *run)
 static void host_acts(struct run *run)
 {
     store(run);
-    if (is_idle(run) && !draw_once_in(run->draw, 3))
+    if (is_idle(run) && !draw_once_in(run->draw, 2))
         put_further(run);
     if (draw_once_in(run->draw, 50))
         put_wrong(run);
@@ -258,13 +304,15 @@ static void put_run(struct vectors *vectors, const struct setup *setup, const st
     put_record(vectors, RUN, record.words, record.count, refusal);
 }
 
-/* A set-up that isn't refused; IB mode more often than by chance. */
+/* A set-up that isn't refused; IB mode, and the level that has long semaphores, more often than by chance. */
 static struct setup draw_setup(struct draw *draw)
 {
     struct setup setup = {.setting = draw_setting(draw), .dma_limit = UINT32_MAX};
 
     if (draw_once_in(draw, 8))
         setup.setting = (struct setting){4 + draw_below(draw, 2), MODE_IB, setup.setting.sli};
+    else if (draw_once_in(draw, 6))
+        setup.setting.level = 5;
     setup.ib_order = draw_once_in(draw, 12) ? draw_below(draw, 13) : 2 + draw_below(draw, 2);
     setup.sli_mask = draw_any_number(draw) >> 20;
     return setup;

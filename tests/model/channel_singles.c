@@ -31,10 +31,10 @@ static uint32_t put_single(struct vectors *vectors, const struct single *single)
     static struct buffer buffer;
     const struct lens *lens = &single->lens;
     uint32_t lents[] = {lens->words, lens->entries, lens->table, lens->semaphores};
-    struct lent lent = {word_pool,  lens->words, single->memory.entries, lens->entries,
-                        table_pool, lens->table, semaphore_pool,         lens->semaphores};
+    uint64_t clock = draw_clock(&vectors->draw);
+    struct lent lent = {word_pool,   lens->words,    single->memory.entries, lens->entries, table_pool,
+                        lens->table, semaphore_pool, lens->semaphores,       clock};
     struct channel channel = single->channel;
-    uint32_t place = channel.semaphore_offset / 4;
     struct answer answer;
     size_t header;
 
@@ -42,6 +42,7 @@ static uint32_t put_single(struct vectors *vectors, const struct single *single)
     buffer.count = 0;
     add_channel(vectors, &buffer, &channel);
     add_words(&buffer, lents, sizeof lents / sizeof lents[0]);
+    add_clock(&buffer, clock);
     add_counted(&buffer, single->memory.table, single->memory.table_count);
     add_memory(&buffer, &single->memory);
     header = buffer.count++;
@@ -49,9 +50,9 @@ static uint32_t put_single(struct vectors *vectors, const struct single *single)
     put_record(vectors, SINGLE, buffer.words, buffer.count, answer.kind);
     if (answer.refusal != REFUSAL_NONE)
         count_one(vectors, SINGLE_REFUSED, answer.refusal);
-    /* Behind the words that records give, a released word would stay. */
-    if (place < POOL)
-        semaphore_pool[place] = 0;
+    /* Behind the words that records give, released words would stay. */
+    for (uint32_t i = GIVEN; i < lens->semaphores; i++)
+        semaphore_pool[i] = 0;
     return answer.refusal;
 }
 
@@ -187,11 +188,39 @@ static void give_semaphores(struct draw *draw, struct single *single)
     single->channel.semaphore_offset = draw_below(draw, 4 * single->lens.semaphores + 1);
 }
 
+/* P29, P30: six semaphore words and a sequence of values 1 to 3; the long address at any byte of the first
+ * four words, from the last of which on a release has not enough. */
+static void give_long(struct draw *draw, struct single *single)
+{
+    struct memory *memory = &single->memory;
+
+    memory->semaphore_count = 6;
+    single->lens.semaphores = memory->semaphore_count;
+    for (uint32_t i = 0; i < memory->semaphore_count; i++)
+        memory->semaphores[i] = 1 + draw_below(draw, 3);
+    single->channel.semaphore_address = draw_below(draw, 4 * 4);
+    single->channel.semaphore_sequence = 1 + draw_below(draw, 3);
+}
+
 static uint32_t draw_offset(struct draw *draw)
 {
     static const uint32_t offsets[] = {0, 4, 0xffc, 0x1000, 0xfffc, 0x10000, 1, 2, 0xfffe};
 
     return draw_among(draw, offsets, sizeof offsets / sizeof offsets[0]);
+}
+
+/* P25, P26, P27, P28: a parameter of 0x10 to 0x1c, in three of four cases a good one. */
+static uint32_t draw_long_parameter(struct draw *draw, uint32_t method)
+{
+    static const uint32_t operations[] = {TRIGGER_EQUAL, TRIGGER_RELEASE, TRIGGER_GREATER, 3};
+    uint32_t any = draw_any_number(draw);
+    bool is_good = !draw_once_in(draw, 4);
+
+    if (method == 0x10 && is_good)
+        return any >> 24;
+    if (method == 0x14 && is_good)
+        return any & ~UINT32_C(3);
+    return method == 0x1c ? operations[any % 4] : any;
 }
 
 /* A parameter that a method may do something with. */
@@ -203,6 +232,8 @@ static uint32_t draw_parameter_of(struct draw *draw, uint32_t method)
         return draw_offset(draw);
     if (method == 0x68 || method == 0x6c)
         return draw_below(draw, 3);
+    if (method >= 0x10 && method <= 0x1c)
+        return draw_long_parameter(draw, method);
     return draw_any_number(draw);
 }
 
@@ -214,6 +245,8 @@ static struct single draw_method(struct draw *draw, struct setting setting, uint
 
     if (method == 0x68 || method == 0x6c)
         give_semaphores(draw, &single);
+    else if (method == 0x1c)
+        give_long(draw, &single);
     else if (method == 0x00 || method == 0x60 || method >= 0x100)
         give_objects(draw, &single);
     return single;
@@ -234,8 +267,8 @@ static void put_methods(struct vectors *vectors)
         }
 }
 
-/* S24, P3, P6, P7, P8, P20, P21: the special methods and those for the engine once more, at any level that
- * has them or not. */
+/* S24, P3, P6, P7, P8, P20, P21, P25: the special methods and those for the engine once more, at any level
+ * that has them or not. */
 static void put_more_methods(struct vectors *vectors)
 {
     static const uint32_t methods[] = {0x00, 0x10,  0x24,  0x50,  0x60,  0x64,  0x68,  0x6c,
@@ -392,6 +425,285 @@ static void put_far_releases(struct vectors *vectors)
     }
 }
 
+/* ---- Long semaphores, case by case ---- */
+
+/* A parameter of one of the methods 0x10 to 0x24 at level 5, with a long semaphore. An old one's object and
+ * offset are there or not, as neither is asked for. */
+static struct single draw_long(struct draw *draw, uint32_t method, uint32_t parameter)
+{
+    struct single single = draw_parameter(draw, draw_setting_at(draw, 5), method, parameter);
+
+    give_long(draw, &single);
+    if (draw_once_in(draw, 2))
+        single.channel.dma_semaphore = 0;
+    return single;
+}
+
+/* P16, P31: a channel that tries an acquire again, at any level, with a long semaphore too. */
+static struct single draw_retry(struct draw *draw, struct setting setting, uint32_t mode)
+{
+    struct single single = draw_reading(draw, setting);
+
+    give_long(draw, &single);
+    single.channel.acquire_active = true;
+    single.channel.acquire_mode = mode;
+    return single;
+}
+
+/* The long address at any byte of a word, which is given this value. */
+static void give_long_word(struct draw *draw, struct single *single, uint32_t place, uint32_t word)
+{
+    single->channel.semaphore_address = 4 * place + draw_below(draw, 4);
+    single->memory.semaphores[place] = word;
+}
+
+/* P8, P25, P26, P27, P28: every number up to 15, and such as have an operation's bits beside others, as the
+ * parameter of each method from 0x10 to 0x24; of a trigger also where no semaphore word is lent. */
+static void put_operations(struct vectors *vectors)
+{
+    static const uint32_t further[16] = {0x10,       0x12,       0x21,       0x44,      0x81,      0x102,
+                                         0x104,      0x1002,     0x2001,     0x10004,   0x1000001, 0x40000002,
+                                         0x80000001, 0x80000002, 0x80000004, UINT32_MAX};
+
+    for (uint32_t i = 0; i < 32 * 7; i++) {
+        uint32_t number = i % 32 < 16 ? i % 32 : further[i % 32 - 16];
+        uint32_t method = i / 32 < 6 ? 0x10 + 4 * (i / 32) : 0x1c;
+        struct single single = draw_long(&vectors->draw, method, number);
+
+        if (i / 32 == 6)
+            single.lens.semaphores = 0;
+        put_single(vectors, &single);
+    }
+}
+
+/* W18, S24, S28: the same methods below level 5, which lacks them, though all that they ask for is there. */
+static void put_operations_below(struct vectors *vectors)
+{
+    for (uint32_t i = 0; i < 5 * 6; i++) {
+        struct draw *draw = &vectors->draw;
+        uint32_t method = 0x10 + 4 * (i / 5);
+        uint32_t parameter = draw_long_parameter(draw, method);
+        struct single single = draw_parameter(draw, draw_setting_at(draw, i % 5), method, parameter);
+
+        give_long(draw, &single);
+        put_single(vectors, &single);
+    }
+}
+
+/* P25, P26, P27: halves of the address, and sequences, around the ends of what each may be. The other half
+ * stays, where the one fails both do. */
+static void put_addresses(struct vectors *vectors)
+{
+    static const uint32_t numbers[24] = {
+        0,       1,          2,          3,          4,          5,          6,          7,
+        0x7f,    0x80,       0xfc,       0xff,       0x100,      0x101,      0x1fc,      0x8000,
+        0x10000, 0x7ffffffc, 0x80000000, 0xffffff00, 0xfffffffc, 0xfffffffd, 0xfffffffe, UINT32_MAX};
+
+    for (uint32_t i = 0; i < 3 * 24; i++) {
+        struct setting setting = draw_setting_at(&vectors->draw, 5);
+        struct single single = draw_parameter(&vectors->draw, setting, 0x10 + 4 * (i % 3), numbers[i / 3]);
+
+        put_single(vectors, &single);
+    }
+}
+
+/* P29, P30: from each byte of three words on none to five words are lent; all that the record gives are
+ * others than a release writes. An acquire needs one of them, and is tried where there is none and where
+ * there is. */
+static void put_long_ends(struct vectors *vectors)
+{
+    static const uint32_t places[] = {0, 1, 4};
+
+    for (uint32_t i = 0; i < 3 * 6 * 4; i++) {
+        uint32_t place = places[i % 3];
+        uint32_t ahead = i / 3 % 6;
+        uint32_t byte = i / 18;
+        struct single single = draw_long(&vectors->draw, 0x1c, TRIGGER_RELEASE);
+
+        single.memory.semaphore_count = 9;
+        for (uint32_t j = 0; j < 9; j++)
+            single.memory.semaphores[j] = 0x100 + j;
+        single.lens.semaphores = place + ahead;
+        single.channel.semaphore_address = 4 * place + byte;
+        single.channel.semaphore_sequence = draw_any_number(&vectors->draw);
+        put_single(vectors, &single);
+        if (ahead >= 2)
+            continue;
+        set_word(&single, byte % 2 == 0 ? TRIGGER_EQUAL : TRIGGER_GREATER);
+        put_single(vectors, &single);
+    }
+}
+
+/* P29: a release behind the words that the record gives, of which the last may not be lent. */
+static void put_far_long_releases(struct vectors *vectors)
+{
+    static const uint32_t places[] = {62, 64, 1023, 65535};
+
+    for (uint32_t i = 0; i < 4 * 2; i++) {
+        struct single single = draw_long(&vectors->draw, 0x1c, TRIGGER_RELEASE);
+
+        single.channel.semaphore_address = 4 * places[i % 4] + draw_below(&vectors->draw, 4);
+        single.lens.semaphores = places[i % 4] + LONG_WORDS - i / 4;
+        put_single(vectors, &single);
+    }
+}
+
+/* R35, P29, P30, P31: addresses far past the memory, of which every word would let an acquire pass. Cut to 32
+ * bits, or its place so, many would be at a word that is lent, or would have its end there. */
+static void put_far_addresses(struct vectors *vectors)
+{
+    static const uint64_t addresses[] = {
+        0x400004,    0x80000004,  0xfffffffc,  0x100000004,  0x100000007,  0x8000000004, 0xff00000004,
+        0x3fffffff0, 0x3fffffffc, 0x400000004, 0xfffffffff0, 0xfffffffffc, 0xffffffffff,
+    };
+
+    for (uint32_t i = 0; i < 5 * sizeof addresses / sizeof addresses[0]; i++) {
+        static const uint32_t operations[] = {TRIGGER_RELEASE, TRIGGER_EQUAL, TRIGGER_GREATER};
+        struct draw *draw = &vectors->draw;
+        uint32_t which = i % 5;
+        struct single single = which < 3 ? draw_long(draw, 0x1c, operations[which])
+                                         : draw_retry(draw, draw_setting(draw), which - 2);
+
+        for (uint32_t j = 0; j < single.memory.semaphore_count; j++)
+            single.memory.semaphores[j] = 7;
+        single.channel.semaphore_address = addresses[i / 5];
+        single.channel.semaphore_sequence = 7;
+        single.channel.acquire_value = 7;
+        put_single(vectors, &single);
+    }
+}
+
+/* P30: words on both sides of a value, near it and half of all numbers away, and values around the ends of 32
+ * bits, read with a sign or without. */
+enum { DIFFERENCES = 8, VALUES = 7 };
+static const uint32_t differences[DIFFERENCES] = {0,          1,          2,          0x7ffffffe,
+                                                  0x7fffffff, 0x80000000, 0x80000001, UINT32_MAX};
+static const uint32_t values[VALUES] = {0, 1, 0x7fffffff, 0x80000000, 0x80000001, 0xfffffffe, UINT32_MAX};
+
+/* P30: first tries at every difference, in both modes, with what the channel holds of an acquire before. */
+static void put_long_acquires(struct vectors *vectors)
+{
+    for (uint32_t i = 0; i < 2 * DIFFERENCES * VALUES; i++) {
+        uint32_t value = values[i / 2 / DIFFERENCES];
+        uint32_t word = value + differences[i / 2 % DIFFERENCES];
+        struct single single = draw_long(&vectors->draw, 0x1c, i % 2 == 0 ? TRIGGER_EQUAL : TRIGGER_GREATER);
+
+        give_long_word(&vectors->draw, &single, i % 6, word);
+        single.channel.semaphore_sequence = value;
+        put_single(vectors, &single);
+    }
+}
+
+/* P30: whether a word that differs so from a value lets an acquire pass in a long mode. */
+static bool is_met(uint32_t mode, uint32_t difference)
+{
+    return difference == 0 || (mode == ACQUIRE_GREATER && difference <= 0x7fffffff);
+}
+
+/* R35, P31: the same for retries, each difference at every level. By the sequence all would go the other
+ * way. */
+static void put_long_retries(struct vectors *vectors)
+{
+    for (uint32_t i = 0; i < 2 * DIFFERENCES * VALUES; i++) {
+        struct draw *draw = &vectors->draw;
+        uint32_t mode = i % 2 == 0 ? ACQUIRE_EQUAL : ACQUIRE_GREATER;
+        uint32_t row = i / 2 / DIFFERENCES;
+        uint32_t column = i / 2 % DIFFERENCES;
+        uint32_t word = values[row] + differences[column];
+        struct single single = draw_retry(draw, draw_setting_at(draw, (row + column) % 6), mode);
+
+        give_long_word(draw, &single, i % 6, word);
+        single.channel.acquire_value = values[row];
+        single.channel.semaphore_sequence = is_met(mode, differences[column]) ? word + 1 : word;
+        put_single(vectors, &single);
+    }
+}
+
+/* What stands at the place that a retry goes by, its own, and at the one of the other kind of semaphore. */
+enum { OWN_PASSES, OTHER_PASSES, OWN_PAST, OTHER_PAST, PLACES };
+
+/* P16, P31: the own word passes in its mode, or doesn't; where it can, another mode would have it the other
+ * way. The other word would, and so would the sequence. */
+static void give_both_words(struct single *single, uint32_t own, uint32_t other, bool passes)
+{
+    uint32_t value = single->channel.acquire_value;
+    bool is_greater = single->channel.acquire_mode == ACQUIRE_GREATER;
+    uint32_t passing = is_greater ? value + 1 : value;
+    uint32_t waiting = is_greater ? value - 1 : value + 1;
+
+    single->memory.semaphores[own] = passes ? passing : waiting;
+    single->memory.semaphores[other] = passes ? value - 1 : value;
+    single->channel.semaphore_sequence = passes ? value + 2 : single->memory.semaphores[own];
+}
+
+/* R35, P16, P31: retries in each of the three modes at every setting, where one place passes and the other
+ * doesn't, or one is lent and the other isn't. */
+static void put_retry_modes(struct vectors *vectors)
+{
+    for (uint32_t i = 0; i < STATES * ACQUIRE_MODES * PLACES; i++) {
+        struct draw *draw = &vectors->draw;
+        uint32_t mode = i / STATES % ACQUIRE_MODES;
+        uint32_t which = i / STATES / ACQUIRE_MODES;
+        uint32_t low = draw_below(draw, 3);
+        uint32_t high = low + 1 + draw_below(draw, 3);
+        bool is_own_high = which == OWN_PAST || (which != OTHER_PAST && draw_once_in(draw, 2));
+        uint32_t own = is_own_high ? high : low;
+        uint32_t other = is_own_high ? low : high;
+        uint32_t byte = draw_below(draw, 4);
+        struct single single = draw_retry(draw, state_at(i % STATES).setting, mode);
+
+        single.channel.semaphore_offset = 4 * (mode == ACQUIRE_OLD ? own : other) + byte;
+        single.channel.semaphore_address = 4 * (mode == ACQUIRE_OLD ? other : own) + byte;
+        give_both_words(&single, own, other, which == OWN_PASSES || which == OTHER_PAST);
+        if (which == OWN_PAST || which == OTHER_PAST)
+            single.lens.semaphores = high;
+        put_single(vectors, &single);
+    }
+}
+
+/* P32: below level 5 the same step twice, with another clock, long address and sequence. */
+static void put_unlooked(struct vectors *vectors)
+{
+    static const uint32_t methods[] = {0x00, 0x50, 0x64, 0x68, 0x6c, 0x100, 0x68};
+
+    for (uint32_t i = 0; i < 5 * 7; i++) {
+        struct draw *draw = &vectors->draw;
+        struct single single = draw_method(draw, draw_setting_at(draw, i % 5), methods[i / 5]);
+
+        single.channel.dma_semaphore = 1;
+        single.channel.offset_valid = true;
+        /* The last is a retry. */
+        single.channel.acquire_active = i / 5 == 6;
+        single.channel.acquire_mode = ACQUIRE_OLD;
+        single.channel.acquire_value = 1;
+        put_single(vectors, &single);
+        single.channel.semaphore_address = draw_below(draw, 8);
+        single.channel.semaphore_sequence = draw_number(draw);
+        put_single(vectors, &single);
+    }
+}
+
+/* R8, P29, P30, P31: around the end of the largest semaphore memory. A release has its four words up to the
+ * last but three, acquire and retry have theirs up to the last. */
+static void put_last_longs(struct vectors *vectors)
+{
+    for (uint32_t i = 0; i < 6 + 4 + 4; i++) {
+        struct draw *draw = &vectors->draw;
+        uint32_t mode = i % 4 < 2 ? ACQUIRE_EQUAL : ACQUIRE_GREATER;
+        uint32_t operation = mode == ACQUIRE_EQUAL ? TRIGGER_EQUAL : TRIGGER_GREATER;
+        uint32_t place = i < 6 ? SIZE_LIMIT - 5 + i : SIZE_LIMIT - 1 + i % 2;
+        struct single single = i < 10 ? draw_long(draw, 0x1c, i < 6 ? TRIGGER_RELEASE : operation)
+                                      : draw_retry(draw, draw_setting(draw), mode);
+
+        single.channel.semaphore_address = 4 * (uint64_t)place + draw_below(draw, 4);
+        single.lens.semaphores = SIZE_LIMIT;
+        /* Words that the record doesn't give are 0. */
+        if (i >= 6)
+            single.channel.semaphore_sequence = single.channel.acquire_value = 0;
+        put_single(vectors, &single);
+    }
+}
+
 /* ---- The pusher, case by case ---- */
 
 /* W11, W12, S16, S18, S19, S20, S21, S22, S23, S27, S28: each form at each setting, in a subroutine or not;
@@ -410,6 +722,21 @@ static void put_commands(struct vectors *vectors)
         single.channel.subroutine = i / STATES / PATTERNS % 2 == 1;
         single.channel.sli_active = state.is_active;
         put_single(vectors, &single);
+    }
+}
+
+/* S21, S22, S27, S28: call and return, inside a subroutine and outside of one, wherever there are any. */
+static void put_calls(struct vectors *vectors)
+{
+    for (uint32_t i = 0; i < STATES * 2 * 2; i++) {
+        struct draw *draw = &vectors->draw;
+        struct setting setting = state_at(i % STATES).setting;
+        uint32_t word = i / STATES % 2 == 0 ? 0x00020000 : 4 * draw_below(draw, 9) | 2;
+        struct single single = draw_command(draw, setting, word);
+
+        single.channel.subroutine = i / STATES / 2 == 1;
+        if (setting.level >= 2 && setting.mode == MODE_NV04)
+            put_single(vectors, &single);
     }
 }
 
@@ -578,8 +905,8 @@ static void put_far_entries(struct vectors *vectors)
 
 /* ---- No word, no entry ---- */
 
-/* S5, P16, P21, R35: a retry at every level, whatever is bound or valid, in either mode; at the last word and
- * past it. */
+/* S5, P16, P21, R35: an old retry at every level, whatever is bound or valid, in either mode; at the last
+ * word and past it. */
 static void put_retries(struct vectors *vectors)
 {
     for (uint32_t i = 0; i < STATES * 14; i++) {
@@ -588,6 +915,7 @@ static void put_retries(struct vectors *vectors)
 
         give_semaphores(&vectors->draw, &single);
         single.channel.acquire_active = true;
+        single.channel.acquire_mode = ACQUIRE_OLD;
         single.channel.acquire_value = draw_below(&vectors->draw, 3);
         if (i / STATES == 13)
             single.channel.semaphore_offset = draw_any_number(&vectors->draw);
@@ -600,7 +928,8 @@ static void put_retries(struct vectors *vectors)
 static void put_stopped(struct vectors *vectors)
 {
     for (uint32_t i = 1; i < 7 * 7 * 3; i++) {
-        struct single single = draw_method(&vectors->draw, draw_setting(&vectors->draw), 0x6c);
+        uint32_t method = i % 2 == 0 ? 0x6c : 0x1c;
+        struct single single = draw_method(&vectors->draw, draw_setting(&vectors->draw), method);
 
         if (i % 49 == 0)
             continue;
@@ -645,6 +974,8 @@ static void put_any(struct vectors *vectors)
         give_objects(draw, &single);
         if (draw_once_in(draw, 2))
             give_semaphores(draw, &single);
+        else if (draw_once_in(draw, 2))
+            give_long(draw, &single);
         put_single(vectors, &single);
     }
 }
@@ -700,13 +1031,25 @@ static struct single draw_release(struct draw *draw)
     return single;
 }
 
+/* P29: the same at level 5, where half of the time it is the four words of a long semaphore. */
+static struct single draw_any_release(struct draw *draw)
+{
+    struct single single = draw_release(draw);
+
+    if (draw_once_in(draw, 2))
+        return single;
+    single = draw_parameter(draw, draw_setting_at(draw, 5), 0x1c, TRIGGER_RELEASE);
+    give_long(draw, &single);
+    return single;
+}
+
 /* R5, R31: table lengths around those that are refused, whatever the step would do. */
 static void put_tables(struct vectors *vectors)
 {
     static const uint32_t lents[] = {1, 2, 3, 4, 5, 4092, 4095, 4096, 4097, 4098, 4099, 4100, 4104};
 
     for (uint32_t i = 0; i < 8 * sizeof lents / sizeof lents[0]; i++) {
-        struct single single = draw_release(&vectors->draw);
+        struct single single = draw_any_release(&vectors->draw);
 
         single.lens.table = lents[i / 8];
         if (i % 8 == 0)
@@ -726,7 +1069,7 @@ static void put_orders(struct vectors *vectors)
     for (uint32_t i = 0; i < 2 * 2 * 2 * 2; i++) {
         struct draw *draw = &vectors->draw;
         struct single single = i & 8 ? draw_ill_formed(draw, draw_below(draw, breach_count()), BREACH_NEAR)
-                                     : draw_release(draw);
+                                     : draw_any_release(draw);
 
         if (i & 1)
             single.lens.words = i & 2 ? SIZE_LIMIT + 1 : SIZE_LIMIT;
@@ -741,7 +1084,7 @@ static void put_orders(struct vectors *vectors)
 static void put_sizes(struct vectors *vectors)
 {
     for (uint32_t i = 0; i < 2 * 3; i++) {
-        struct single single = draw_release(&vectors->draw);
+        struct single single = draw_any_release(&vectors->draw);
 
         if (i % 2 == 0)
             single.lens.words = SIZE_LIMIT + 1;
@@ -781,6 +1124,7 @@ static void put_last_semaphores(struct vectors *vectors)
         if (i / 2 == 1)
             single.channel.method = 0x68 / 4;
         single.channel.acquire_active = i / 2 == 2;
+        single.channel.acquire_mode = ACQUIRE_OLD;
         single.channel.acquire_value = 0;
         put_single(vectors, &single);
     }
@@ -798,7 +1142,18 @@ void put_singles(struct vectors *vectors)
     put_offsets(vectors);
     put_semaphores(vectors);
     put_far_releases(vectors);
+    put_operations(vectors);
+    put_operations_below(vectors);
+    put_addresses(vectors);
+    put_long_ends(vectors);
+    put_far_long_releases(vectors);
+    put_far_addresses(vectors);
+    put_long_acquires(vectors);
+    put_long_retries(vectors);
+    put_retry_modes(vectors);
+    put_unlooked(vectors);
     put_commands(vectors);
+    put_calls(vectors);
     put_any_commands(vectors);
     put_conditionals(vectors);
     put_count_words(vectors);
@@ -817,4 +1172,5 @@ void put_singles(struct vectors *vectors)
     put_sizes(vectors);
     put_last_words(vectors);
     put_last_semaphores(vectors);
+    put_last_longs(vectors);
 }

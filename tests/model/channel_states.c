@@ -9,10 +9,22 @@ uint32_t draw_any_number(struct draw *draw)
     return draw_once_in(draw, 3) ? draw_among(draw, ends, sizeof ends / sizeof ends[0]) : number;
 }
 
+uint64_t draw_clock(struct draw *draw)
+{
+    uint64_t low = draw_any_number(draw);
+    uint64_t high = draw_any_number(draw);
+
+    while (low == 0 || high == 0 || low == high) {
+        low = draw_number(draw);
+        high = draw_number(draw);
+    }
+    return high << 32 | low;
+}
+
 /* ---- Well-formed channels ---- */
 
 /* R32: the widths of the words of a row, but for those that depend on the set-up: they stay 0 here, as do the
- * errors and the active acquire. */
+ * errors, the active acquire and its mode. */
 static const unsigned char widths[CHANNEL_WORDS] = {
     [AT_DMA_LIMIT] = 32,     [AT_GET] = 32,         [AT_PUT] = 32,           [AT_COUNT] = 24,
     [AT_METHOD] = 11,        [AT_SUBCHANNEL] = 3,   [AT_INCREASING] = 1,     [AT_COUNT_AWAITED] = 1,
@@ -22,6 +34,9 @@ static const unsigned char widths[CHANNEL_WORDS] = {
     [AT_ENGINE_6] = 5,       [AT_ENGINE_7] = 5,     [AT_LAST_ENGINE] = 5,    [AT_REF] = 32,
     [AT_DMA_SEMAPHORE] = 32, [AT_OFFSET_VALID] = 1, [AT_ACQUIRE_VALUE] = 32, [AT_SEMAPHORE_OFFSET] = 32,
     [AT_DMA_MGET_VALID] = 1,
+    [AT_SEMAPHORE_ADDRESS] = 32,
+    [AT_SEMAPHORE_ADDRESS_HIGH] = 8,
+    [AT_SEMAPHORE_SEQUENCE] = 32,
 };
 
 /* R32, R34: the part of a channel that only IB mode has. */
@@ -35,7 +50,8 @@ static void draw_ib(struct draw *draw, struct channel *channel)
     channel->dma_mget |= (uint64_t)draw_below(draw, 256) << 32;
 }
 
-/* R32, R33, R34: what STATE asks holds of it, and what it doesn't ask need not. */
+/* R32, R33, R34, R35: what STATE asks holds of it, and what it doesn't ask need not: a long address may lie
+ * between words, and an acquire may have any mode at any level. */
 struct channel draw_channel(struct draw *draw, struct setting setting)
 {
     struct record record = {{0}};
@@ -49,6 +65,7 @@ struct channel draw_channel(struct draw *draw, struct setting setting)
     channel.get -= channel.get % 4;
     channel.put -= channel.put % 4;
     channel.return_address -= channel.return_address % 4;
+    channel.acquire_mode = draw_below(draw, ACQUIRE_MODES);
     if (setting.mode == MODE_IB)
         draw_ib(draw, &channel);
     return channel;
@@ -116,6 +133,9 @@ static const struct breach breaches[] = {
     {ANY, ANY, 0, AT_ENGINE_5, {31, 32, 256, UINT32_MAX}},
     {ANY, ANY, 0, AT_ENGINE_6, {31, 32, 256, UINT32_MAX}},
     {ANY, ANY, 0, AT_ENGINE_7, {31, 32, 256, UINT32_MAX}},
+    /* R32: a long address has 40 bits in NV04-style too; cut to them, some would be at a word. */
+    {MODE_NV04, ANY, 0, AT_SEMAPHORE_ADDRESS, {0xffffffffff, 0x10000000000, UINT64_C(1) << 63, UINT64_MAX}},
+    {MODE_IB, ANY, 12, AT_SEMAPHORE_ADDRESS, {0xffffffffff, 0x10000000004, UINT64_C(1) << 63, UINT64_MAX}},
 };
 
 unsigned breach_count(void)

@@ -1,5 +1,5 @@
 /* The self-test of the model of the channel: the rules as cases worked out by hand, the printed example,
- * second readings of opening and of STATE, and what must hold of any run. */
+ * second readings of opening, of long semaphores and of STATE, and what must hold of any run. */
 #include <inttypes.h>
 #include <stdio.h>
 #include <stdlib.h>
@@ -65,12 +65,14 @@ static const uint32_t objects[] = {
     0x100, 0x0a,       0xa7, 0x30002,    /* the first one's handle again */
 };
 
+enum { SEMAPHORES = 8 };
+
 /* The memory lent to each case, the semaphore words expected after it, and what of it is lent. */
 static struct {
     uint32_t words[8];
     uint64_t entries[4];
-    uint32_t semaphores[4];
-    uint32_t expected[4];
+    uint32_t semaphores[SEMAPHORES];
+    uint32_t expected[SEMAPHORES];
     struct lent lent;
 } scene;
 
@@ -81,10 +83,17 @@ static struct channel at(uint32_t level, uint32_t mode, bool sli)
     struct channel channel;
 
     memset(&scene, 0, sizeof scene);
-    for (uint32_t i = 0; i < 4; i++)
+    for (uint32_t i = 0; i < SEMAPHORES; i++)
         scene.semaphores[i] = scene.expected[i] = 10 + i;
-    scene.lent = (struct lent){
-        scene.words, 8, scene.entries, 4, objects, sizeof objects / sizeof objects[0], scene.semaphores, 4};
+    scene.lent = (struct lent){.words = scene.words,
+                               .word_count = 8,
+                               .entries = scene.entries,
+                               .entry_count = 4,
+                               .table = objects,
+                               .table_count = sizeof objects / sizeof objects[0],
+                               .semaphores = scene.semaphores,
+                               .semaphore_count = SEMAPHORES,
+                               .clock = UINT64_C(0x0000000a0000000b)};
     check(model_open(&channel, setup, NULL, 0).refusal == REFUSAL_NONE, "a channel opens", level, mode);
     return channel;
 }
@@ -112,6 +121,10 @@ static struct channel taking(uint32_t level, uint32_t number, uint32_t parameter
     channel.engines[3] = 19;
     channel.engines[4] = 20;
     channel.ref = 21;
+    channel.semaphore_address = UINT64_C(0xa987654321);
+    channel.semaphore_sequence = 22;
+    channel.acquire_value = 23;
+    channel.acquire_mode = ACQUIRE_GREATER;
     scene.words[0] = parameter;
     return channel;
 }
@@ -653,15 +666,17 @@ static void test_flow_in_ib(void)
 /* W18: the methods that levels 0 to 5 have, as a row of bits, method 0 lowest. */
 static const uint64_t present[] = {0x1, 0x100001, 0xf100001, 0x10f100001, 0x10f100001, 0x10f1003f1};
 
-/* S24, S28: methods that the level has, and those that it lacks. */
+/* S24, S28: methods that the level has, and those that it lacks; with a parameter that each of them takes. */
 static void test_present(uint32_t level)
 {
     for (uint32_t number = 0; number < 0x100; number += 4) {
-        struct channel channel = taking(level, number, 0x100);
+        uint32_t parameter = number == 0x10 || number == 0x1c ? 2 : 0x100;
+        struct channel channel = taking(level, number, parameter);
         struct answer answer;
 
         channel.dma_semaphore = 1;
         channel.offset_valid = true;
+        channel.semaphore_address = 0;
         if (present[level] >> number / 4 & 1) {
             answer = model_step(&channel, &scene.lent);
             check(answer.kind != KIND_ERROR && answer.method == number && channel.count == 1,
@@ -692,6 +707,16 @@ static void test_discard(uint32_t level, uint32_t mode)
     channel.method = 0x54 / 4;
     steps("NON_CACHE comes before a discard", channel, plain(KIND_ERROR),
           pusher_stopped(advanced(channel), PUSHER_NON_CACHE));
+    for (uint32_t number = 0x10; number <= 0x24; number += 4) {
+        channel.method = number / 4;
+        scene.words[0] = number == 0x1c ? 2 : 0xdeadbeef;
+        if (level >= 5)
+            steps("a long semaphore is discarded", channel, method(KIND_DISCARD, 5, number, scene.words[0]),
+                  submitted(channel));
+        else
+            steps("long semaphores below level 5", channel, plain(KIND_ERROR),
+                  pusher_stopped(advanced(channel), PUSHER_NON_CACHE));
+    }
 }
 
 /* S24, S25, P21: an increasing method, also where the puller fails or SLI discards. */
@@ -913,9 +938,9 @@ static void test_ref_and_events(uint32_t level)
     channel.method = 0x80 / 4;
     if (level >= 3)
         pulls("0x80 has no effect", channel, KIND_EVENT, 0xfffffffe, channel);
-    for (uint32_t number = 0x10; level >= 5 && number <= 0x24; number += 4) {
+    for (uint32_t number = 0x20; level >= 5 && number <= 0x24; number += 4) {
         channel.method = number / 4;
-        pulls("0x10 to 0x24 have no effect", channel, KIND_EVENT, 0xfffffffe, channel);
+        pulls("0x20 and 0x24 have no effect", channel, KIND_EVENT, 0xfffffffe, channel);
     }
 }
 
@@ -1015,6 +1040,7 @@ static void test_acquire(uint32_t level)
         scene.words[0] = value;
         after.acquire_active = true;
         after.acquire_value = value;
+        after.acquire_mode = ACQUIRE_OLD;
         pulls("an acquire that waits", channel, KIND_WAIT, value, after);
     }
     test_semaphore_errors(level, 0x68);
@@ -1032,7 +1058,7 @@ static void test_release(uint32_t level)
     test_semaphore_errors(level, 0x6c);
 }
 
-/* S5, P16, P21: a retry at any level, with no object and no valid offset. */
+/* S5, P16, P21: an old retry at any level, with no object and no valid offset. */
 static void test_retry(uint32_t level)
 {
     struct channel channel = taking(level, 0x50, 7);
@@ -1040,6 +1066,7 @@ static void test_retry(uint32_t level)
 
     channel.acquire_active = true;
     channel.acquire_value = 11;
+    channel.acquire_mode = ACQUIRE_OLD;
     channel.semaphore_offset = 7;
     after = channel;
     after.acquire_active = false;
@@ -1052,6 +1079,535 @@ static void test_retry(uint32_t level)
     scene.lent.semaphore_count = 1;
     steps("a retry past the lent words, still active", channel, plain(KIND_ERROR),
           puller_stopped(channel, level < 4 ? PULLER_SEMAPHORE_2 : PULLER_SEMAPHORE_4));
+}
+
+/* ---- Long semaphores ---- */
+
+/* P25: the high half, which keeps the low one. */
+static void test_address_high(void)
+{
+    static const uint32_t good[] = {0, 1, 0x7f, 0x80, 0xff};
+    static const uint32_t bad[] = {0x100, 0x101, 0x1ff, 0x10000, 0x80000000, 0xffffff00, UINT32_MAX};
+
+    for (unsigned i = 0; i < sizeof good / sizeof good[0]; i++) {
+        struct channel channel = taking(5, 0x10, good[i]);
+        struct channel after = channel;
+
+        after.semaphore_address = UINT64_C(0x100000000) * good[i] + 0x87654321;
+        pulls("a high half of eight bits", channel, KIND_EVENT, good[i], after);
+    }
+    for (unsigned i = 0; i < sizeof bad / sizeof bad[0]; i++)
+        fails("a high half of more bits", taking(5, 0x10, bad[i]), PULLER_SEMAPHORE_3);
+}
+
+/* P26: the low half, which keeps the high one. */
+static void test_address_low(void)
+{
+    static const uint32_t good[] = {0, 4, 8, 0x100, 0x7ffffffc, 0x80000000, 0xfffffffc};
+
+    for (unsigned i = 0; i < sizeof good / sizeof good[0]; i++) {
+        struct channel channel = taking(5, 0x14, good[i]);
+        struct channel after = channel;
+
+        after.semaphore_address = UINT64_C(0xa900000000) + good[i];
+        pulls("a low half at a word", channel, KIND_EVENT, good[i], after);
+        for (uint32_t byte = 1; byte < 4; byte++)
+            fails("a low half between words", taking(5, 0x14, good[i] + byte), PULLER_SEMAPHORE_1);
+    }
+}
+
+/* P27: any sequence. */
+static void test_sequence(void)
+{
+    static const uint32_t sequences[] = {0, 1, 2, 3, 0x7fffffff, 0x80000000, UINT32_MAX};
+
+    for (unsigned i = 0; i < sizeof sequences / sizeof sequences[0]; i++) {
+        struct channel channel = taking(5, 0x18, sequences[i]);
+        struct channel after = channel;
+
+        after.semaphore_sequence = sequences[i];
+        pulls("a sequence", channel, KIND_EVENT, sequences[i], after);
+    }
+}
+
+/* P13, P28: a channel about to trigger at a byte of a semaphore word, with nothing that an old semaphore
+ * would ask for. */
+static struct channel triggering(uint32_t operation, uint64_t address, uint32_t sequence)
+{
+    struct channel channel = taking(5, 0x1c, operation);
+
+    channel.semaphore_address = address;
+    channel.semaphore_sequence = sequence;
+    channel.semaphore_offset = UINT32_MAX;
+    return channel;
+}
+
+/* P28: numbers that are no operation, by the whole parameter, on a memory of every length. */
+static void test_operations(void)
+{
+    static const uint32_t others[] = {0x11,   0x12,    0x14,       0x81,       0x102,      0x1002,
+                                      0x2004, 0x10001, 0x80000001, 0x80000002, 0x80000004, UINT32_MAX};
+
+    for (unsigned i = 0; i < 9 * (16 + sizeof others / sizeof others[0]); i++) {
+        uint32_t operation = i / 9 < 16 ? i / 9 : others[i / 9 - 16];
+        struct channel channel = triggering(operation, 4, 11);
+
+        if (operation == 1 || operation == 2 || operation == 4)
+            continue;
+        scene.lent.semaphore_count = i % 9;
+        fails("a number that is no operation", channel, PULLER_SEMAPHORE_2);
+        channel.semaphore_address = UINT64_C(0xffffffffff);
+        fails("a number that is no operation, at any address", channel, PULLER_SEMAPHORE_2);
+    }
+}
+
+/* P29: a release at every byte of nine words, of which none to eight are lent. Four words are written, and
+ * the others stay; or none is. */
+static void test_long_release(void)
+{
+    for (unsigned i = 0; i < 9 * 4 * 9; i++) {
+        uint32_t place = i / 4 % 9;
+        struct channel channel = triggering(2, i % 36, 0xfeedf00d);
+
+        scene.lent.semaphore_count = i / 36;
+        scene.lent.clock = UINT64_C(0x123456789abcdef0);
+        if (place + 4 > i / 36) {
+            fails("a release of words that aren't all lent", channel, PULLER_SEMAPHORE_4);
+            continue;
+        }
+        scene.expected[place] = 0xfeedf00d;
+        scene.expected[place + 1] = 0;
+        scene.expected[place + 2] = 0x9abcdef0;
+        scene.expected[place + 3] = 0x12345678;
+        pulls("a release of four words", channel, KIND_RELEASE, 2, channel);
+    }
+}
+
+/* P29, P30, P31: addresses behind the lent words, all but one past any memory. Many would be at a word, or
+ * end at one, if they or their places were cut to 32 bits. */
+static const uint64_t far_addresses[] = {0x20,         0x400000,     0x80000000,   0xfffffffc,  0x100000000,
+                                         0x100000003,  0x3fffffff0,  0x3fffffffc,  0x400000000, 0xff00000000,
+                                         0x8000000004, 0xfffffffff0, 0xfffffffffc, 0xffffffffff};
+
+/* P29, P30: the same addresses for each operation, though every word would do. */
+static void test_far_triggers(void)
+{
+    for (unsigned i = 0; i < 3 * sizeof far_addresses / sizeof far_addresses[0]; i++) {
+        struct channel channel = triggering(UINT32_C(1) << i % 3, far_addresses[i / 3], 5);
+
+        for (unsigned j = 0; j < SEMAPHORES; j++)
+            scene.semaphores[j] = scene.expected[j] = 5;
+        fails("a long semaphore past the lent words", channel, PULLER_SEMAPHORE_4);
+    }
+}
+
+/* P30: differences of a word and a value, and whether each mode passes. */
+static const struct {
+    uint32_t difference;
+    bool equal;
+    bool greater;
+} differences[] = {
+    {0, true, true},
+    {1, false, true},
+    {2, false, true},
+    {0x7ffffffe, false, true},
+    {0x7fffffff, false, true},
+    {0x80000000, false, false},
+    {0x80000001, false, false},
+    {0xfffffffe, false, false},
+    {0xffffffff, false, false},
+};
+
+enum { DIFFERENCES = sizeof differences / sizeof differences[0], VALUES = 6 };
+
+/* P30: values around both places where a number of 32 bits ends, with a sign and without. */
+static const uint32_t values[VALUES] = {0, 1, 0x7fffffff, 0x80000000, 0xfffffffe, 0xffffffff};
+
+/* P30: acquires in both modes at any byte of the last lent word. Only one that waits is stored. */
+static void test_long_acquire(void)
+{
+    for (unsigned i = 0; i < 2 * 4 * DIFFERENCES * VALUES; i++) {
+        bool is_equal = i % 2 == 0;
+        unsigned row = i / 8 % DIFFERENCES;
+        uint32_t sequence = values[i / 8 / DIFFERENCES];
+        struct channel channel = triggering(is_equal ? 1 : 4, 20 + i / 2 % 4, sequence);
+        struct channel after = channel;
+
+        scene.semaphores[5] = scene.expected[5] = sequence + differences[row].difference;
+        scene.lent.semaphore_count = 6;
+        after.acquire_active = true;
+        after.acquire_value = sequence;
+        after.acquire_mode = is_equal ? ACQUIRE_EQUAL : ACQUIRE_GREATER;
+        if (is_equal ? differences[row].equal : differences[row].greater)
+            pulls("a long acquire that passes", channel, KIND_ACQUIRE, is_equal ? 1 : 4, channel);
+        else
+            pulls("a long acquire that waits", channel, KIND_WAIT, is_equal ? 1 : 4, after);
+        scene.lent.semaphore_count = 5;
+        fails("a long acquire one word past the lent ones", channel, PULLER_SEMAPHORE_4);
+    }
+}
+
+/* S5, P31: a channel that tries a long acquire again at byte 22. By its offset or sequence it would pass. */
+static struct channel retrying(uint32_t level, uint32_t mode, uint32_t value, uint32_t word)
+{
+    struct channel channel = taking(level, 0x50, 7);
+
+    channel.acquire_active = true;
+    channel.acquire_mode = mode;
+    channel.acquire_value = value;
+    channel.semaphore_address = 22;
+    channel.semaphore_sequence = word;
+    channel.semaphore_offset = 4;
+    scene.semaphores[5] = scene.expected[5] = word;
+    scene.semaphores[1] = scene.expected[1] = value;
+    scene.lent.semaphore_count = 6;
+    return channel;
+}
+
+/* R35, S5, P21, P31: retries in both long modes at any level, against the value and not the sequence. */
+static void test_long_retry(uint32_t level)
+{
+    for (unsigned i = 0; i < 2 * DIFFERENCES * VALUES; i++) {
+        bool is_equal = i % 2 == 0;
+        unsigned row = i / 2 % DIFFERENCES;
+        uint32_t value = values[i / 2 / DIFFERENCES];
+        struct channel channel = retrying(level, is_equal ? ACQUIRE_EQUAL : ACQUIRE_GREATER, value,
+                                          value + differences[row].difference);
+        struct channel after;
+
+        if (is_equal ? differences[row].equal : differences[row].greater) {
+            channel.semaphore_sequence++;
+            after = channel;
+            after.acquire_active = false;
+            scene.semaphores[1] = scene.expected[1] = value - 1;
+            steps("a long retry that passes", channel, plain(KIND_ACQUIRE), after);
+        } else {
+            steps("a long retry that waits", channel, plain(KIND_WAIT), channel);
+        }
+        scene.lent.semaphore_count = 5;
+        steps("a long retry past the lent words, still active", channel, plain(KIND_ERROR),
+              puller_stopped(channel, PULLER_SEMAPHORE_4));
+    }
+    for (unsigned i = 0; i < 2 * sizeof far_addresses / sizeof far_addresses[0]; i++) {
+        struct channel channel = retrying(level, i % 2 == 0 ? ACQUIRE_EQUAL : ACQUIRE_GREATER, 10, 10);
+
+        channel.semaphore_address = far_addresses[i / 2];
+        steps("a long retry far past the lent words", channel, plain(KIND_ERROR),
+              puller_stopped(channel, PULLER_SEMAPHORE_4));
+    }
+}
+
+/* P15, P16: an old acquire that waits is an old one from then on, whatever the mode was; then its word is
+ * that of the offset, and not the long semaphore's. */
+static void test_old_mode(uint32_t level)
+{
+    for (uint32_t mode = 0; mode < ACQUIRE_MODES; mode++) {
+        struct channel channel = semaphoring(level, 0x68);
+        struct channel after;
+
+        channel.acquire_mode = mode;
+        channel.semaphore_address = 20;
+        scene.words[0] = 15;
+        check(model_step(&channel, &scene.lent).kind == KIND_WAIT, "an old acquire", level, 0);
+        check(channel.acquire_mode == ACQUIRE_OLD, "is kept as an old one", level, 0);
+        steps("and tried again as one", channel, plain(KIND_WAIT), channel);
+        scene.semaphores[1] = scene.expected[1] = 15;
+        after = channel;
+        after.acquire_active = false;
+        steps("till its own word has the value", channel, plain(KIND_ACQUIRE), after);
+    }
+}
+
+/* P25, P26, P27, P28, P29: a fresh channel, which has neither object nor offset, over a run from 0x10 on. */
+static void test_fresh_release(void)
+{
+    struct channel channel = reading(5, MODE_NV04, false);
+
+    scene.words[0] = 0x0004001c;
+    scene.words[1] = 2;
+    channel.put = 8;
+    check(model_step(&channel, &scene.lent).kind == KIND_COMMAND, "a trigger and no more", 5, 0);
+    check(model_step(&channel, &scene.lent).kind == KIND_RELEASE, "releases at word 0", 5, 0);
+    check(scene.semaphores[0] == 0 && scene.semaphores[1] == 0, "the sequence of a fresh channel", 5, 0);
+    check(scene.semaphores[2] == 0xb && scene.semaphores[3] == 0xa, "and the clock, low half first", 5, 0);
+    check(scene.semaphores[4] == 14, "and no further word", 5, 0);
+
+    channel = reading(5, MODE_NV04, false);
+    scene.words[0] = 0x00180010;
+    scene.words[1] = 0xff;
+    scene.words[2] = 0xfffffffc;
+    scene.words[3] = 6;
+    scene.words[4] = 4;
+    for (unsigned i = 0; i < 5; i++)
+        check(model_step(&channel, &scene.lent).refusal == REFUSAL_NONE, "a run of six", 5, 0);
+    check(channel.semaphore_address == UINT64_C(0xfffffffffc), "the largest address at a word", 5, 0);
+    check(channel.semaphore_sequence == 6 && channel.puller_error == PULLER_SEMAPHORE_4, "is past the end", 5,
+          0);
+}
+
+/* P29, P30: the trigger that the rules work through. */
+static void test_worked_trigger(void)
+{
+    struct channel channel = triggering(2, 0x10, 7);
+    struct channel after = channel;
+
+    memset(scene.semaphores, 0, sizeof scene.semaphores);
+    memset(scene.expected, 0, sizeof scene.expected);
+    scene.lent.clock = UINT64_C(0x0000000a0000000b);
+    scene.lent.semaphore_count = 7;
+    fails("a release with seven words", channel, PULLER_SEMAPHORE_4);
+    scene.lent.semaphore_count = 8;
+    after.acquire_active = true;
+    after.acquire_value = 7;
+    after.acquire_mode = ACQUIRE_EQUAL;
+    scene.words[0] = 1;
+    pulls("0 is not 7", channel, KIND_WAIT, 1, after);
+    after.acquire_mode = ACQUIRE_GREATER;
+    scene.words[0] = 4;
+    pulls("nor greater", channel, KIND_WAIT, 4, after);
+    scene.semaphores[4] = scene.expected[4] = 8;
+    pulls("8 is greater", channel, KIND_ACQUIRE, 4, channel);
+    after.acquire_mode = ACQUIRE_EQUAL;
+    scene.words[0] = 1;
+    pulls("and not equal", channel, KIND_WAIT, 1, after);
+    scene.words[0] = 2;
+    scene.expected[4] = 7;
+    scene.expected[6] = 0xb;
+    scene.expected[7] = 0xa;
+    pulls("a release with eight", channel, KIND_RELEASE, 2, channel);
+}
+
+/* R13, R32, R35: an address of 40 bits, at a word or not, and one of more, of a step and of a put. */
+static void test_address_width(uint32_t level, uint32_t mode)
+{
+    struct channel channel = at(level, mode, false);
+
+    for (uint32_t byte = 0; byte < 4; byte++) {
+        channel.semaphore_address = UINT64_C(0xfffffffffc) + byte;
+        steps("an address of 40 bits", channel, plain(KIND_IDLE), channel);
+        sets_put("an address of 40 bits", channel, 0, REFUSAL_NONE, channel);
+    }
+    for (uint32_t bit = 40; bit < 64; bit++) {
+        channel.semaphore_address = UINT64_C(1) << bit;
+        steps("an address of more bits", channel, refused(REFUSAL_STATE), channel);
+        sets_put("an address of more bits", channel, 0, REFUSAL_STATE, channel);
+    }
+}
+
+/* ---- Long semaphores, read a second time ---- */
+
+/* P23: SEMAPHORE 1 to 4, by the number that each is stored as. */
+static uint32_t fail_second(struct record *row, uint32_t subtype)
+{
+    row->word[AT_PULLER_ERROR] = 2 + subtype;
+    return KIND_ERROR;
+}
+
+/* A number of some bytes, lowest first. */
+static uint64_t number_at(const uint8_t *bytes, unsigned size)
+{
+    uint64_t number = 0;
+
+    while (size-- > 0)
+        number = 256 * number + bytes[size];
+    return number;
+}
+
+static void set_number_at(uint8_t *bytes, uint64_t number, unsigned size)
+{
+    for (unsigned i = 0; i < size; i++) {
+        bytes[i] = (uint8_t)(number % 256);
+        number /= 256;
+    }
+}
+
+/* The semaphore memory as bytes, so many of them lent. */
+struct bytes {
+    uint8_t byte[4 * SEMAPHORES];
+    uint64_t length;
+};
+
+/* P29, P30: the byte at which the semaphore's word begins. */
+static uint64_t start_of(const struct record *row)
+{
+    return record_get(row, AT_SEMAPHORE_ADDRESS) - row->word[AT_SEMAPHORE_ADDRESS] % 4;
+}
+
+/* P30: the difference is brought into the numbers that 32 bits with a sign can hold. */
+static bool passes_second(bool is_equal, uint64_t word, uint64_t value)
+{
+    int64_t difference = (int64_t)word - (int64_t)value;
+
+    if (difference > INT32_MAX)
+        difference -= INT64_C(1) << 32;
+    if (difference < INT32_MIN)
+        difference += INT64_C(1) << 32;
+    return is_equal ? difference == 0 : difference >= 0;
+}
+
+/* P29: sixteen bytes, of which the first four are the sequence and the last eight the clock. */
+static uint32_t release_second(struct record *row, struct bytes *bytes, uint64_t clock)
+{
+    uint64_t start = start_of(row);
+
+    if (start + 16 > bytes->length)
+        return fail_second(row, 4);
+    set_number_at(bytes->byte + start, row->word[AT_SEMAPHORE_SEQUENCE], 8);
+    set_number_at(bytes->byte + start + 8, clock, 8);
+    return KIND_RELEASE;
+}
+
+/* P30: modes 1 and 2 by the operation's bits 0 and 2. */
+static uint32_t acquire_second(struct record *row, const struct bytes *bytes, uint32_t mode)
+{
+    uint64_t start = start_of(row);
+    uint32_t sequence = row->word[AT_SEMAPHORE_SEQUENCE];
+
+    if (start + 4 > bytes->length)
+        return fail_second(row, 4);
+    if (passes_second(mode == 1, number_at(bytes->byte + start, 4), sequence))
+        return KIND_ACQUIRE;
+    row->word[AT_ACQUIRE_ACTIVE] = 1;
+    row->word[AT_ACQUIRE_MODE] = mode;
+    row->word[AT_ACQUIRE_VALUE] = sequence;
+    return KIND_WAIT;
+}
+
+/* P8, P25, P26, P27, P28: a method from 0x10 to 0x24, by its number; the answer is the event's kind. */
+static uint32_t take_second(struct record *row, struct bytes *bytes, uint32_t parameter, uint64_t clock)
+{
+    uint32_t number = row->word[AT_METHOD];
+
+    if (number == 4 && parameter / 256 != 0)
+        return fail_second(row, 3);
+    if (number == 5 && (parameter & 3) != 0)
+        return fail_second(row, 1);
+    if (number == 7 && parameter == 2)
+        return release_second(row, bytes, clock);
+    if (number == 7 && (parameter == 1 || parameter == 4))
+        return acquire_second(row, bytes, parameter == 1 ? 1 : 2);
+    if (number == 7)
+        return fail_second(row, 2);
+    if (number == 4)
+        row->word[AT_SEMAPHORE_ADDRESS_HIGH] = parameter;
+    if (number == 5)
+        row->word[AT_SEMAPHORE_ADDRESS] = parameter;
+    if (number == 6)
+        row->word[AT_SEMAPHORE_SEQUENCE] = parameter;
+    return KIND_EVENT;
+}
+
+/* S5, P16, P31: a retry, by the mode that the row has. */
+static uint32_t retry_second(struct record *row, const struct bytes *bytes)
+{
+    uint32_t mode = row->word[AT_ACQUIRE_MODE];
+    uint64_t start = mode == 0 ? row->word[AT_SEMAPHORE_OFFSET] / 4 * UINT64_C(4) : start_of(row);
+
+    if (start + 4 > bytes->length)
+        return fail_second(row, mode == 0 && row->word[AT_LEVEL] < 4 ? 2 : 4);
+    if (!passes_second(mode < 2, number_at(bytes->byte + start, 4), row->word[AT_ACQUIRE_VALUE]))
+        return KIND_WAIT;
+    row->word[AT_ACQUIRE_ACTIVE] = 0;
+    return KIND_ACQUIRE;
+}
+
+/* An address at or right behind the lent words, at any byte; now and then one that is far past them. */
+static uint64_t draw_address(struct draw *draw)
+{
+    uint64_t address = draw_below(draw, 4 * SEMAPHORES + 4);
+
+    if (draw_once_in(draw, 8))
+        address |= UINT64_C(1) << draw_below(draw, 40);
+    return address;
+}
+
+/* A number near one of the semaphore words, or half of all numbers away from there. */
+static uint32_t draw_near(struct draw *draw)
+{
+    uint32_t word = scene.semaphores[draw_below(draw, SEMAPHORES)];
+    uint32_t half = draw_once_in(draw, 2) ? 0 : UINT32_C(1) << 31;
+
+    return word + half + 1 - draw_below(draw, 3);
+}
+
+/* The semaphore words, drawn and half of them the same, so many of them lent; and a clock. */
+static struct bytes draw_scene(struct draw *draw)
+{
+    struct bytes bytes = {.length = 4 * draw_below(draw, SEMAPHORES + 1)};
+    uint32_t word = draw_number(draw);
+    uint64_t high = draw_number(draw);
+
+    if (draw_once_in(draw, 2))
+        word >>= 28;
+    for (unsigned i = 0; i < SEMAPHORES; i++) {
+        scene.semaphores[i] = draw_once_in(draw, 2) ? word : draw_number(draw);
+        set_number_at(bytes.byte + 4 * i, scene.semaphores[i], 4);
+    }
+    scene.lent.semaphore_count = (size_t)bytes.length / 4;
+    scene.lent.clock = high << 32 | draw_number(draw);
+    return bytes;
+}
+
+/* The puller's part of a channel that acquires go by. */
+static void draw_acquire(struct draw *draw, struct channel *channel)
+{
+    channel->semaphore_address = draw_address(draw);
+    channel->semaphore_offset = (uint32_t)draw_address(draw);
+    channel->semaphore_sequence = draw_near(draw);
+    channel->acquire_value = draw_near(draw);
+    channel->acquire_mode = draw_below(draw, ACQUIRE_MODES);
+    channel->offset_valid = draw_once_in(draw, 2);
+    channel->dma_semaphore = draw_below(draw, 2);
+}
+
+/* S29, P20, P22: the step as the second reading has it: the event, the row and the bytes that are left. */
+static void steps_as_second(const char *sentence, struct channel channel, struct answer answer,
+                            const struct record *row, const struct bytes *bytes)
+{
+    for (unsigned i = 0; i < SEMAPHORES; i++)
+        scene.expected[i] = (uint32_t)number_at(bytes->byte + 4 * i, 4);
+    if (answer.kind == KIND_ERROR)
+        answer = plain(KIND_ERROR);
+    steps(sentence, channel, answer, channel_of(row));
+}
+
+/* P25, P26, P27, P28, P29, P30: any of the methods with any parameter, of which many are of use. */
+static void test_second_method(struct draw *draw)
+{
+    uint32_t number = 0x10 + 4 * draw_below(draw, 6);
+    uint32_t parameter = draw_number(draw);
+    struct channel channel = taking(5, draw_once_in(draw, 2) ? 0x1c : number, parameter);
+    struct bytes bytes = draw_scene(draw);
+    struct record row;
+    uint32_t kind;
+
+    scene.words[0] >>= draw_below(draw, 32);
+    if (draw_once_in(draw, 2))
+        scene.words[0] = UINT32_C(1) << draw_below(draw, 3);
+    if (draw_once_in(draw, 8))
+        scene.words[0] |= UINT32_C(1) << draw_below(draw, 32);
+    draw_acquire(draw, &channel);
+    row = record_of(&channel);
+    kind = take_second(&row, &bytes, scene.words[0], scene.lent.clock);
+    row.word[AT_GET] = 4;
+    row.word[AT_COUNT]--;
+    steps_as_second("a method of long semaphores", channel,
+                    method(kind, 3, 4 * channel.method, scene.words[0]), &row, &bytes);
+}
+
+/* P16, P31: a retry in any mode at any level. */
+static void test_second_retry(struct draw *draw)
+{
+    struct channel channel = taking(draw_below(draw, 6), 0x50, 7);
+    struct bytes bytes = draw_scene(draw);
+    struct record row;
+    uint32_t kind;
+
+    draw_acquire(draw, &channel);
+    channel.acquire_active = true;
+    row = record_of(&channel);
+    kind = retry_second(&row, &bytes);
+    steps_as_second("a retry", channel, plain(kind), &row, &bytes);
 }
 
 /* ---- The printed example ---- */
@@ -1083,7 +1639,7 @@ static void test_printed(void)
                                   "step=2 get=4 kind=ref subc=0 mthd=80 param=7\n"
                                   "end=idle steps=2 get=8 ref=7\n";
     struct setup setup = {{3, MODE_NV04, false}, 0, UINT32_MAX, 0};
-    struct lent lent = {words, 2, NULL, 0, NULL, 0, semaphores, 1024};
+    struct lent lent = {words, 2, NULL, 0, NULL, 0, semaphores, 1024, 0};
     struct channel channel;
     char text[256];
     int length = 0;
@@ -1109,7 +1665,8 @@ static const struct {
     unsigned at;
     unsigned width;
 } widths[] = {
-    {AT_COUNT, 24}, {AT_SLI_MASK, 12}, {AT_METHOD, 11}, {AT_LAST_ENGINE, 5}, {AT_SUBCHANNEL, 3},
+    {AT_COUNT, 24},      {AT_SLI_MASK, 12},  {AT_METHOD, 11},
+    {AT_LAST_ENGINE, 5}, {AT_SUBCHANNEL, 3}, {AT_SEMAPHORE_ADDRESS_HIGH, 8},
 };
 
 /* R32: the same widths, and those of the eight engines. */
@@ -1168,6 +1725,8 @@ static struct record draw_record(struct draw *draw)
 
         record.word[place] = number >> draw_below(draw, 32);
     }
+    /* R32: there is no fourth mode. */
+    record.word[AT_ACQUIRE_MODE] %= ACQUIRE_MODES;
     return record;
 }
 
@@ -1210,15 +1769,24 @@ static struct lent draw_lent(struct draw *draw)
     size_t entries = POOL - draw_below(draw, 3);
     size_t table = POOL - (draw_below(draw, 8) == 0 ? draw_below(draw, 8) : 0);
     size_t semaphores = POOL - (draw_below(draw, 8) == 0 ? draw_below(draw, POOL) : 0);
+    uint64_t clock = draw_number(draw);
 
-    return (struct lent){word_pool + POOL - words,  words, entry_pool + POOL - entries,        entries,
-                         table_pool + POOL - table, table, semaphore_pool + POOL - semaphores, semaphores};
+    return (struct lent){.words = word_pool + POOL - words,
+                         .word_count = words,
+                         .entries = entry_pool + POOL - entries,
+                         .entry_count = entries,
+                         .table = table_pool + POOL - table,
+                         .table_count = table,
+                         .semaphores = semaphore_pool + POOL - semaphores,
+                         .semaphore_count = semaphores,
+                         .clock = clock << 32 | draw_number(draw)};
 }
 
 /* A word of a run: mostly commands with methods that do something, small numbers, jumps within the pool. */
 static uint32_t draw_run_word(struct draw *draw)
 {
-    static const uint32_t numbers[] = {0x00, 0x50, 0x60, 0x64, 0x68, 0x6c, 0x80, 0x10, 0x100, 0x180, 0x1ffc};
+    static const uint32_t numbers[] = {0x00, 0x50, 0x60, 0x64, 0x68,  0x6c,  0x80,  0x10,
+                                       0x14, 0x18, 0x1c, 0x1c, 0x100, 0x180, 0x1ffc};
     uint32_t choice = draw_below(draw, 8);
     uint32_t count = draw_below(draw, 3) << 18;
     uint32_t subchannel = draw_below(draw, 2) << 13;
@@ -1248,17 +1816,22 @@ static void draw_pools(struct draw *draw)
     }
 }
 
-/* S3, P17: at most the semaphore word of a release is another than before. */
-static void check_memory(const uint32_t *before, const struct lent *lent, uint32_t offset,
+/* S3, P17, P29: at most the semaphore words of a release are others than before, one or four. */
+static void check_memory(const uint32_t *before, const struct lent *lent, const struct channel *channel,
                          struct answer answer)
 {
-    size_t first = POOL - lent->semaphore_count;
+    bool is_long = answer.method == 0x1c;
+    uint64_t address = is_long ? channel->semaphore_address : channel->semaphore_offset;
+    uint64_t first = POOL - lent->semaphore_count + address / 4;
+    uint64_t end = answer.kind != KIND_RELEASE ? first : first + (is_long ? 4 : 1);
+    uint32_t written[] = {is_long ? channel->semaphore_sequence : answer.parameter, 0, (uint32_t)lent->clock,
+                          (uint32_t)(lent->clock >> 32)};
 
     for (size_t i = 0; i < POOL; i++) {
-        bool written = answer.kind == KIND_RELEASE && i == first + offset / 4;
+        bool is_written = i >= first && i < end;
 
-        check(semaphore_pool[i] == (written ? answer.parameter : before[i]), "no semaphore word changes", 0,
-              0);
+        check(semaphore_pool[i] == (is_written ? written[i - first] : before[i]), "no other semaphore word",
+              0, 0);
     }
 }
 
@@ -1297,6 +1870,28 @@ static void check_kept(const struct channel *before, const struct channel *after
           setting.level, setting.mode);
 }
 
+/* P32: the same step with another clock. Only a long release writes other words then, and only the two that
+ * are the clock's. */
+static void check_clock(const uint32_t *before, const struct lent *lent, const struct channel *channel,
+                        const struct channel *after, struct answer answer)
+{
+    uint32_t semaphores[POOL];
+    struct lent other = *lent;
+    struct channel further = *channel;
+    bool is_long = answer.kind == KIND_RELEASE && answer.method == 0x1c;
+    size_t first = POOL - lent->semaphore_count;
+    size_t clock = is_long ? first + (size_t)(channel->semaphore_address / 4) + 2 : POOL;
+
+    memcpy(semaphores, before, sizeof semaphores);
+    other.semaphores = semaphores + first;
+    other.clock = ~lent->clock;
+    check(same_answer(model_step(&further, &other), answer), "the event of another clock", 0, 0);
+    check(same_channel(&further, after), "the channel of another clock", 0, 0);
+    for (size_t i = 0; i < POOL; i++)
+        check(semaphores[i] == (i == clock || i == clock + 1 ? ~semaphore_pool[i] : semaphore_pool[i]),
+              "the memory of another clock", 0, 0);
+}
+
 /* R7, S31: put is refused by its own rule alone. */
 static void run_put(struct draw *draw, struct channel *channel)
 {
@@ -1321,7 +1916,8 @@ static void run_step(struct draw *draw, struct channel *channel)
     memcpy(semaphores, semaphore_pool, sizeof semaphores);
     answer = model_step(channel, &lent);
     check_kept(&before, channel, answer);
-    check_memory(semaphores, &lent, before.semaphore_offset, answer);
+    check_memory(semaphores, &lent, &before, answer);
+    check_clock(semaphores, &lent, &before, channel, answer);
 }
 
 /* S31: a channel as opening leaves it, also a refused one, over puts and steps, each with its own lent
@@ -1344,11 +1940,81 @@ static void test_run(struct draw *draw)
     }
 }
 
+/* Two runs side by side, the second with semaphore words of its own. */
+struct twins {
+    struct channel one;
+    struct channel other;
+    uint32_t semaphores[POOL];
+};
+
+/* P32: two channels below level 5 that differ in the long semaphore alone. They have the same mode, be it a
+ * long one, as long as no acquire is active; and what old semaphores ask for, as often as not. */
+static void open_twins(struct draw *draw, struct twins *twins)
+{
+    struct setup setup = {draw_setting(draw), 0, UINT32_MAX, 5};
+    bool is_ib = setup.setting.mode == MODE_IB;
+    struct channel *one = &twins->one;
+
+    if (setup.setting.level == 5)
+        setup.setting.level = 4;
+    setup.ib_order = draw_below(draw, 6);
+    model_open(one, setup, NULL, 0);
+    model_set_put(one, is_ib ? (UINT32_C(1) << setup.ib_order) - 1 : 4 * POOL);
+    one->acquire_mode = draw_below(draw, ACQUIRE_MODES);
+    one->dma_semaphore = draw_below(draw, 2);
+    one->offset_valid = draw_once_in(draw, 2);
+    twins->other = *one;
+    twins->other.semaphore_address = draw_address(draw);
+    twins->other.semaphore_sequence = draw_below(draw, 8);
+    memcpy(twins->semaphores, semaphore_pool, sizeof twins->semaphores);
+}
+
+/* A channel with the long semaphore of another. */
+static struct channel with_long(const struct channel *channel, const struct channel *other)
+{
+    struct channel with = *channel;
+
+    with.semaphore_address = other->semaphore_address;
+    with.semaphore_sequence = other->semaphore_sequence;
+    return with;
+}
+
+/* P32: a step of both, with two clocks: the same event and memory, and the same channel but for what differed
+ * before and stays. */
+static void step_twins(struct draw *draw, struct twins *twins)
+{
+    struct lent lent = draw_lent(draw);
+    struct lent other = lent;
+    struct channel wanted = twins->other;
+    struct answer answer;
+
+    other.semaphores = twins->semaphores + POOL - lent.semaphore_count;
+    other.clock = ~lent.clock;
+    answer = model_step(&twins->one, &lent);
+    check(same_answer(model_step(&twins->other, &other), answer), "the same event", 0, 0);
+    check(memcmp(twins->semaphores, semaphore_pool, sizeof semaphore_pool) == 0, "the same memory", 0, 0);
+    check(twins->one.semaphore_address == 0 && twins->one.semaphore_sequence == 0, "both stay", 0, 0);
+    wanted = with_long(&twins->one, &wanted);
+    check(same_channel(&twins->other, &wanted), "the same channel in all else", 0, 0);
+}
+
+/* P32: what no step below level 5 looks at, over runs. */
+static void test_unlooked(struct draw *draw)
+{
+    struct twins twins;
+
+    draw_pools(draw);
+    open_twins(draw, &twins);
+    for (unsigned i = 0; i < 40; i++)
+        step_twins(draw, &twins);
+}
+
 /* ---- The program ---- */
 
 static void test_nv04(uint32_t level)
 {
     test_protection(level, MODE_NV04);
+    test_address_width(level, MODE_NV04);
     test_jumps(level);
     test_call(level);
     test_return(level);
@@ -1361,18 +2027,35 @@ static void test_puller(uint32_t level)
     test_forward(level);
     test_ref_and_events(level);
     test_retry(level);
+    test_long_retry(level);
     if (level < 2)
         return;
     test_dma(level);
     test_offset(level);
     test_acquire(level);
     test_release(level);
+    test_old_mode(level);
+}
+
+/* The cases of long semaphores that level 5 alone has. */
+static void test_longs(void)
+{
+    test_address_high();
+    test_address_low();
+    test_sequence();
+    test_operations();
+    test_long_release();
+    test_far_triggers();
+    test_long_acquire();
+    test_fresh_release();
+    test_worked_trigger();
 }
 
 static void test_ib(uint32_t level)
 {
     test_step_order(level);
     test_protection(level, MODE_IB);
+    test_address_width(level, MODE_IB);
     test_conditional(level, MODE_IB);
     test_discard(level, MODE_IB);
 }
@@ -1415,11 +2098,18 @@ int main(void)
     test_entry_indices();
     test_mget();
     test_entry_ends();
+    test_longs();
     test_printed();
     for (unsigned i = 0; i < 100000; i++)
         test_state(&draw);
+    for (unsigned i = 0; i < 100000; i++) {
+        test_second_method(&draw);
+        test_second_retry(&draw);
+    }
     for (unsigned i = 0; i < 5000; i++)
         test_run(&draw);
+    for (unsigned i = 0; i < 5000; i++)
+        test_unlooked(&draw);
     printf("channel model: %" PRIu64 " checks\n", checks);
     return 0;
 }

@@ -2,22 +2,24 @@
  * words. A record starts with its kind:
  *   1 OPEN    SETUP, table words lent, TABLE | refusal, entry, CHANNEL
  *   2 RUN     SETUP, TABLE, MEMORY, count of operations, operations
- *   3 SINGLE  CHANNEL, words lent, entries lent, table words lent, semaphore words lent, TABLE, MEMORY
+ *   3 SINGLE  CHANNEL, words lent, entries lent, table words lent, semaphore words lent, CLOCK, TABLE, MEMORY
  *             | header, ANSWER
  *   4 PUT     CHANNEL, put | header, refusal, deltas
- * SETUP is level, mode, ib_order, SLI, mask, limit; CHANNEL is the row of record.h. TABLE is a count and so
- * many table words; MEMORY the same for words, entries (two words each, low half first) and semaphore words.
- * These are the first words of a pool. The others are 0, those of the table 0x80000000 plus their place. The
- * first words of a pool are lent, to a run's opening all table words that the record gives.
+ * SETUP is level, mode, ib_order, SLI, mask, limit; CHANNEL is the row of record.h; CLOCK is two words, the
+ * low half first. TABLE is a count and so many table words; MEMORY the same for words, entries (two words
+ * each, low half first) and semaphore words. These are the first words of a pool. The others are 0, those of
+ * the table 0x80000000 plus their place. The first words of a pool are lent, to a run's opening all table
+ * words that the record gives.
  * A header is number | d << 8 | m << 16: an operation's number, d deltas of the channel and m of semaphore
- * memory. The operations of a run, on the channel that opening gives:
+ * memory, of which a step may write up to four words. The operations of a run, on the channel that opening
+ * gives:
  *   1 put     header, put | refusal, deltas
  *   2 store   header, place, value: the host stores a semaphore word
- *   3 step    header, lent | ANSWER
+ *   3 step    header, lent, CLOCK | ANSWER
  * where lent is words | entries << 8 | table words << 16 | semaphore words << 24. ANSWER is refusal |
  * kind << 8 | fields << 16, then subchannel, method and parameter if fields is 1, then the deltas: of the
  * channel the place in the row | value << 8, or place | 0x80 and the value where that has more than 24 bits;
- * of the memory place and value.
+ * of the memory place and value of each word that is another than before, places rising.
  * With --counts it prints how many there are of each kind, and how many per answer, instead. */
 #include "channel_vectors.h"
 
@@ -50,6 +52,12 @@ void add_channel(struct vectors *vectors, struct buffer *buffer, const struct ch
         if (record.word[i] != 0)
             count_one(vectors, WORD, i);
     add_words(buffer, record.word, CHANNEL_WORDS);
+}
+
+void add_clock(struct buffer *buffer, uint64_t clock)
+{
+    add(buffer, (uint32_t)clock);
+    add(buffer, (uint32_t)(clock >> 32));
 }
 
 void add_memory(struct buffer *buffer, const struct memory *memory)
@@ -85,6 +93,86 @@ static uint32_t add_deltas(struct buffer *buffer, const struct record *before, c
     return deltas;
 }
 
+/* S3, P17, P29: adds the semaphore words that a step made others; the answer is how many there are. */
+static uint32_t add_written(struct buffer *buffer, const uint32_t *before, const struct lent *lent)
+{
+    uint32_t written = 0;
+
+    for (uint32_t i = 0; i < lent->semaphore_count; i++) {
+        if (lent->semaphores[i] == before[i])
+            continue;
+        written++;
+        add(buffer, i);
+        add(buffer, lent->semaphores[i]);
+    }
+    return written;
+}
+
+/* ---- What is counted of a step ---- */
+
+enum { NO_METHOD = 0x2000 };
+
+/* The method that the puller took in a step, by its byte number, or NO_METHOD. */
+static uint32_t pulled(const struct channel *before, const struct channel *after, struct answer answer)
+{
+    bool is_taken = answer.fields && answer.kind != KIND_DISCARD;
+    bool has_failed = answer.kind == KIND_ERROR && after->puller_error != 0 && !before->acquire_active;
+
+    return is_taken || has_failed ? 4 * before->method : NO_METHOD;
+}
+
+/* Whether a step tried an acquire again. */
+static bool is_retry(const struct channel *before, struct answer answer)
+{
+    return before->acquire_active && answer.refusal == REFUSAL_NONE && answer.kind != KIND_STOPPED;
+}
+
+bool is_long_step(const struct channel *before, const struct channel *after, struct answer answer)
+{
+    return pulled(before, after, answer) == 0x1c ||
+           (is_retry(before, answer) && before->acquire_mode != ACQUIRE_OLD);
+}
+
+/* What the trigger of a long semaphore is counted as, by its operation. */
+static uint32_t operation_kind(uint32_t operation)
+{
+    switch (operation) {
+    case TRIGGER_EQUAL:
+        return LONG_EQUAL;
+    case TRIGGER_RELEASE:
+        return LONG_RELEASE;
+    case TRIGGER_GREATER:
+        return LONG_GREATER;
+    default:
+        return LONG_OTHER;
+    }
+}
+
+/* Counts what came of a method of long semaphores, whose parameter was the word at the read address. */
+static void count_long(struct vectors *vectors, const struct channel *before, const struct channel *after,
+                       struct answer answer, const struct lent *lent)
+{
+    uint32_t method = pulled(before, after, answer);
+
+    if (method == 0x1c)
+        count_one(vectors, operation_kind(lent->words[before->get / 4]), answer.kind);
+    if (method >= 0x10 && method <= 0x1c && answer.kind == KIND_ERROR)
+        count_one(vectors, LONG_FAULT, after->puller_error);
+}
+
+/* Counts a retry by its mode, and once more where its mode is a long one and the level has none, to which no
+ * run comes. */
+static void count_retry(struct vectors *vectors, const struct channel *before, struct answer answer)
+{
+    static const uint32_t kinds[ACQUIRE_MODES] = {RETRY_OLD, RETRY_EQUAL, RETRY_GREATER};
+
+    if (!is_retry(before, answer))
+        return;
+    count_one(vectors, kinds[before->acquire_mode], answer.kind);
+    if (before->acquire_mode != ACQUIRE_OLD && before->setup.setting.level < 5)
+        count_one(vectors, RETRY_BELOW, answer.kind);
+}
+
 /* S26, P23: counts what stopped the channel, by its number, where the step did. */
 static void count_error(struct vectors *vectors, const struct channel *channel, struct answer answer,
                         bool was_retry)
@@ -99,33 +187,34 @@ static void count_error(struct vectors *vectors, const struct channel *channel, 
         count_one(vectors, RETRY_FAULT, channel->puller_error);
 }
 
-/* S13, S29, S30: the event of a step, with its fields, and every word of the channel that is another. */
+/* ---- Steps and puts ---- */
+
+/* S13, S29, S30: the event of a step, with its fields, and every word of channel or memory that changed. */
 struct answer add_step(struct vectors *vectors, struct buffer *buffer, size_t header,
                        struct channel *channel, const struct lent *lent)
 {
-    struct record before = record_of(channel);
-    /* S3, P17: the one semaphore word that a step can write. */
-    uint32_t place = channel->semaphore_offset / 4;
-    bool is_lent = place < lent->semaphore_count;
-    uint32_t value = is_lent ? lent->semaphores[place] : 0;
-    bool was_retry = channel->acquire_active;
-    struct answer answer = model_step(channel, lent);
-    bool is_written = is_lent && lent->semaphores[place] != value;
-    uint32_t deltas;
+    static uint32_t semaphores[POOL];
+    struct channel before = *channel;
+    struct record row = record_of(&before);
+    uint32_t deltas, written;
+    struct answer answer;
 
-    count_error(vectors, channel, answer, was_retry);
+    for (size_t i = 0; i < lent->semaphore_count; i++)
+        semaphores[i] = lent->semaphores[i];
+    answer = model_step(channel, lent);
+    count_error(vectors, channel, answer, before.acquire_active);
+    count_long(vectors, &before, channel, answer, lent);
+    count_retry(vectors, &before, answer);
     add(buffer, answer.refusal | answer.kind << 8 | (uint32_t)answer.fields << 16);
     if (answer.fields) {
         add(buffer, answer.subchannel);
         add(buffer, answer.method);
         add(buffer, answer.parameter);
     }
-    deltas = add_deltas(buffer, &before, channel);
-    if (is_written) {
-        add(buffer, place);
-        add(buffer, lent->semaphores[place]);
-    }
-    buffer->words[header] = OP_STEP | deltas << 8 | (uint32_t)is_written << 16;
+    deltas = add_deltas(buffer, &row, channel);
+    written = add_written(buffer, semaphores, lent);
+    count_one(vectors, WRITTEN, written);
+    buffer->words[header] = OP_STEP | deltas << 8 | written << 16;
     return answer;
 }
 
@@ -162,12 +251,16 @@ int main(int count, char **arguments)
 {
     /* OPEN, RUN, PUT and RUN_PUT are counted by the refusal, STEP and SINGLE by the event's kind (0 where
      * they are refused: then REFUSED and SINGLE_REFUSED by the refusal), ERROR and CAUSE by the pusher's and
-     * the puller's error, RETRY_FAULT by the latter, STATE by the breach. WORD counts, by the place, the words
-     * other than 0 of the channels that are written whole. */
-    static const char *const names[] = {"OPEN",  "RUN",         "SINGLE",         "PUT",
-                                        "STEP",  "REFUSED",     "SINGLE_REFUSED", "ERROR",
-                                        "CAUSE", "RETRY_FAULT", "STATE",          "RUN_PUT",
-                                        "WORD"};
+     * the puller's error, RETRY_FAULT by the latter, STATE by the breach. WORD counts, by the place, the
+     * words other than 0 of the channels that are written whole. The triggers of long semaphores are counted
+     * by their operation, the retries by their mode (RETRY_BELOW: those of a long one below level 5), and in
+     * runs both together as LONG_STEP, all by the event's kind; LONG_FAULT by the puller's error of 0x10 to
+     * 0x1c; WRITTEN by how many semaphore words a step made others. */
+    static const char *const names[] = {
+        "OPEN",           "RUN",        "SINGLE",       "PUT",           "STEP",        "REFUSED",
+        "SINGLE_REFUSED", "ERROR",      "CAUSE",        "RETRY_FAULT",   "STATE",       "RUN_PUT",
+        "WORD",           "LONG_EQUAL", "LONG_GREATER", "LONG_RELEASE",  "LONG_OTHER",  "LONG_FAULT",
+        "LONG_STEP",      "RETRY_OLD",  "RETRY_EQUAL",  "RETRY_GREATER", "RETRY_BELOW", "WRITTEN"};
     static struct vectors vectors = {.draw = {0x5eed}};
 
     if (count == 2 && strcmp(arguments[1], "--layout") == 0) {

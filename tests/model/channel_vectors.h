@@ -22,7 +22,18 @@ enum {
     RETRY_FAULT = 10,
     STATE = 11,
     RUN_PUT = 12,
-    WORD = 13
+    WORD = 13,
+    LONG_EQUAL = 14,
+    LONG_GREATER = 15,
+    LONG_RELEASE = 16,
+    LONG_OTHER = 17,
+    LONG_FAULT = 18,
+    LONG_STEP = 19,
+    RETRY_OLD = 20,
+    RETRY_EQUAL = 21,
+    RETRY_GREATER = 22,
+    RETRY_BELOW = 23,
+    WRITTEN = 24
 };
 
 /* The pools that memory is lent from: how many words they have, and how many of them a record can give. */
@@ -69,9 +80,16 @@ void add_channel(struct vectors *vectors, struct buffer *buffer, const struct ch
 /* The words, entries and semaphore words that a record gives, each after its count. */
 void add_memory(struct buffer *buffer, const struct memory *memory);
 
+/* A clock, the low half first. */
+void add_clock(struct buffer *buffer, uint64_t clock);
+
 /* Takes a step and adds what comes of it; its header goes to the place that was kept for it. */
 struct answer add_step(struct vectors *vectors, struct buffer *buffer, size_t header,
                        struct channel *channel, const struct lent *lent);
+
+/* Whether a step that led from one channel to another was about a long semaphore: its trigger was taken, or
+ * an acquire in one of its modes was tried again. */
+bool is_long_step(const struct channel *before, const struct channel *after, struct answer answer);
 
 /* Sets put and adds what comes of it, in the same way. */
 uint32_t add_put(struct buffer *buffer, size_t header, struct channel *channel, uint32_t put);
@@ -80,6 +98,9 @@ uint32_t add_put(struct buffer *buffer, size_t header, struct channel *channel, 
 
 /* Any number, in a third of all cases one at an end of 32 bits. */
 uint32_t draw_any_number(struct draw *draw);
+
+/* A clock of which neither half is 0 and the two are not the same, so that each is seen where it goes to. */
+uint64_t draw_clock(struct draw *draw);
 
 /* A well-formed channel that isn't stopped and waits for no semaphore; all its numbers are drawn. */
 struct channel draw_channel(struct draw *draw, struct setting setting);
@@ -121,6 +142,10 @@ enum {
     END_OFFSET,
     END_UNSET,
     END_PAST,
+    END_HIGH,
+    END_LOW,
+    END_OPERATION,
+    END_LONG_PAST,
     END_ANY,
     ENDINGS
 };

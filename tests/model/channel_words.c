@@ -180,16 +180,16 @@ static void emit_ref(struct text *text)
 /* P7, P8: methods without effect, where the level has them. */
 static void emit_events(struct text *text)
 {
-    uint32_t count = 1 + draw_below(text->draw, 4);
+    uint32_t count = 1 + draw_below(text->draw, 2);
 
     if (text->setting.level < 3) {
         emit_ref(text);
     } else if (text->setting.level < 5 || draw_once_in(text->draw, 3)) {
         emit_method(text, 1, 0x80, count);
     } else {
-        emit_methods(text, count, 2, 0x10 + 4 * draw_below(text->draw, 3), true);
+        emit_methods(text, count, 2, 0x28 - 4 * count, true);
         for (uint32_t i = 0; i < count; i++)
-            emit(text, draw_below(text->draw, 256));
+            emit(text, draw_any_number(text->draw));
     }
 }
 
@@ -228,6 +228,85 @@ static void emit_semaphore(struct text *text)
     else
         emit_method(text, subchannel, method, draw_value(text));
 }
+
+/* ---- Long semaphores ---- */
+
+/* P29: an address from which on four words are lent. */
+static uint32_t draw_long_address(struct text *text)
+{
+    return 4 * draw_below(text->draw, text->memory->semaphore_count - LONG_WORDS + 1);
+}
+
+/* P30: the values of old semaphores, so that they may be found, or any; around the ends of 32 bits both have
+ * neighbours. */
+static uint32_t draw_sequence(struct text *text)
+{
+    uint32_t any = draw_any_number(text->draw);
+
+    return draw_once_in(text->draw, 3) ? any : draw_value(text);
+}
+
+static uint32_t draw_operation(struct text *text)
+{
+    static const uint32_t operations[] = {TRIGGER_EQUAL, TRIGGER_RELEASE, TRIGGER_GREATER};
+
+    return draw_among(text->draw, operations, sizeof operations / sizeof operations[0]);
+}
+
+/* P8, P25, P26, P27, P28: all of it in one run, with the two methods behind it at times. */
+static void emit_long_run(struct text *text)
+{
+    uint32_t count = 4 + draw_below(text->draw, 3);
+
+    emit_methods(text, count, draw_subchannel(text), 0x10, true);
+    emit(text, 0);
+    emit(text, draw_long_address(text));
+    emit(text, draw_sequence(text));
+    emit(text, draw_operation(text));
+    for (uint32_t i = 4; i < count; i++)
+        emit(text, draw_number(text->draw));
+}
+
+/* P25, P26: another address, at times with a high half that doesn't stay; either half is set beside the
+ * other. */
+static void emit_long_address(struct text *text)
+{
+    uint32_t subchannel = draw_subchannel(text);
+
+    if (draw_once_in(text->draw, 3))
+        emit_method(text, subchannel, 0x10, 1 + draw_below(text->draw, 255));
+    emit_method(text, subchannel, 0x14, draw_long_address(text));
+    emit_method(text, subchannel, 0x10, 0);
+}
+
+/* P27, P28: triggers of one sequence, the first of a run of two that has it or by itself. */
+static void emit_triggers(struct text *text)
+{
+    uint32_t subchannel = draw_subchannel(text);
+
+    if (draw_once_in(text->draw, 2)) {
+        emit_method(text, subchannel, 0x1c, draw_operation(text));
+        return;
+    }
+    emit_methods(text, 2, subchannel, 0x18, true);
+    emit(text, draw_sequence(text));
+    emit(text, draw_operation(text));
+}
+
+/* P25, P26, P27, P28, P29, P30: long semaphores, where the level has them, else old ones. They need no object
+ * and no offset. */
+static void emit_long(struct text *text)
+{
+    static void (*const kinds[])(struct text *) = {emit_long_run, emit_long_address, emit_triggers,
+                                                   emit_triggers};
+
+    if (text->setting.level < 5)
+        emit_semaphore(text);
+    else
+        kinds[draw_below(text->draw, sizeof kinds / sizeof kinds[0])](text);
+}
+
+/* ---- The flow of commands ---- */
 
 /* S19, S24: a conditional, from which on methods are taken or discarded. */
 static void emit_conditional(struct text *text)
@@ -296,6 +375,7 @@ static void emit_commands(struct text *text, uint32_t end)
         emit_wrap,      emit_ref,       emit_ref,       emit_events,      emit_events,
         emit_semaphore, emit_semaphore, emit_semaphore, emit_call,        emit_jump,
         emit_semaphore, emit_nothing,   emit_any,       emit_conditional, emit_conditional,
+        emit_long,      emit_long,      emit_long,      emit_long,
     };
 
     while (text->memory->word_count < end)
@@ -440,6 +520,43 @@ static void end_past(struct text *text)
     end_semaphore(text);
 }
 
+/* P25: a high half of more than eight bits. */
+static void end_high(struct text *text)
+{
+    static const uint32_t halves[] = {0x100, 0x101, 0x200, 0x10000, 0x80000000, 0xffffff00, UINT32_MAX};
+
+    emit_method(text, 2, 0x10, draw_among(text->draw, halves, sizeof halves / sizeof halves[0]));
+}
+
+/* P26: a low half between words. */
+static void end_low(struct text *text)
+{
+    uint32_t address = draw_long_address(text);
+
+    emit_method(text, 3, 0x14, address + 1 + draw_below(text->draw, 3));
+}
+
+/* P28: a number that is no operation, though some of its bits may be one. */
+static void end_operation(struct text *text)
+{
+    static const uint32_t numbers[] = {0, 3, 5, 6, 7, 8, 9, 0x10, 0x12, 0x102, 0x80000001, 0x80000004};
+
+    emit_method(text, 4, 0x1c, draw_among(text->draw, numbers, sizeof numbers / sizeof numbers[0]));
+}
+
+/* P29, P30: an address of which not all four words are lent, or none, or only those of its low half. */
+static void end_long_past(struct text *text)
+{
+    bool is_high = draw_once_in(text->draw, 3);
+    uint32_t last = 4 * text->memory->semaphore_count - 4 * draw_below(text->draw, LONG_WORDS);
+
+    emit_methods(text, 4, 5, 0x10, true);
+    emit(text, is_high ? UINT32_C(1) << draw_below(text->draw, 8) : 0);
+    emit(text, is_high ? draw_long_address(text) : last);
+    emit(text, draw_sequence(text));
+    emit(text, draw_operation(text));
+}
+
 static void end_any(struct text *text)
 {
     emit(text, draw_word(text->draw));
@@ -459,6 +576,11 @@ static bool ending_fits(struct setting setting, unsigned ending)
     case END_UNSET:
     case END_PAST:
         return setting.level >= 2;
+    case END_HIGH:
+    case END_LOW:
+    case END_OPERATION:
+    case END_LONG_PAST:
+        return setting.level >= 5;
     default:
         return true;
     }
@@ -477,14 +599,16 @@ unsigned draw_ending(struct draw *draw, struct setting setting)
 }
 
 static void (*const endings[ENDINGS])(struct text *) = {
-    [END_PLAIN] = end_plain,     [END_LOOP] = end_loop,
-    [END_CALL] = end_call,       [END_NON_CACHE] = end_non_cache,
-    [END_RETURN] = end_return,   [END_RESERVED] = end_reserved,
-    [END_NO_BIND] = end_no_bind, [END_NO_FORWARD] = end_no_forward,
-    [END_NO_DMA] = end_no_dma,   [END_SOFTWARE] = end_software,
-    [END_EMPTY] = end_empty,     [END_CLASS] = end_class,
-    [END_OFFSET] = end_offset,   [END_UNSET] = end_semaphore,
-    [END_PAST] = end_past,       [END_ANY] = end_any,
+    [END_PLAIN] = end_plain,         [END_LOOP] = end_loop,
+    [END_CALL] = end_call,           [END_NON_CACHE] = end_non_cache,
+    [END_RETURN] = end_return,       [END_RESERVED] = end_reserved,
+    [END_NO_BIND] = end_no_bind,     [END_NO_FORWARD] = end_no_forward,
+    [END_NO_DMA] = end_no_dma,       [END_SOFTWARE] = end_software,
+    [END_EMPTY] = end_empty,         [END_CLASS] = end_class,
+    [END_OFFSET] = end_offset,       [END_UNSET] = end_semaphore,
+    [END_PAST] = end_past,           [END_HIGH] = end_high,
+    [END_LOW] = end_low,             [END_OPERATION] = end_operation,
+    [END_LONG_PAST] = end_long_past, [END_ANY] = end_any,
 };
 
 /* ---- IB entries ---- */
@@ -530,6 +654,14 @@ static void draw_entries(struct draw *draw, const struct setup *setup, struct me
     }
 }
 
+/* P29: a few words; where there are long semaphores, at least as many as a release writes. */
+static uint32_t draw_semaphore_count(struct draw *draw, struct setting setting)
+{
+    uint32_t count = 1 + draw_below(draw, 6);
+
+    return setting.level < 5 ? count : LONG_WORDS + count;
+}
+
 void compose(struct draw *draw, const struct setup *setup, unsigned ending, uint32_t size,
              struct memory *memory)
 {
@@ -542,7 +674,7 @@ void compose(struct draw *draw, const struct setup *setup, unsigned ending, uint
 
     *memory = (struct memory){0};
     draw_table(draw, memory);
-    memory->semaphore_count = 1 + draw_below(draw, 6);
+    memory->semaphore_count = draw_semaphore_count(draw, setup->setting);
     for (uint32_t i = 0; i < memory->semaphore_count; i++)
         memory->semaphores[i] = draw_value(&text);
     emit_subroutine(&text);

@@ -17,6 +17,7 @@ struct run {
     size_t word_count;
     uint32_t table[ENTRY_WORDS * TABLE_ENTRIES];
     uint32_t semaphores[SEMAPHORES];
+    uint64_t clock;
     /* Whether what stops or holds the puller is taken away, so that the pusher goes on. */
     bool is_let_go;
 };
@@ -43,9 +44,11 @@ static uint32_t draw_handle(struct run *run)
     return run->word_count == 0 ? any : run->words[any % run->word_count];
 }
 
-/* G33: the table and the semaphore words, which may be others at each step. */
+/* G33: the table, the semaphore words and the clock, which may be others at each step. */
 static void draw_memory(struct run *run)
 {
+    uint64_t high = draw_number(run->draw);
+
     for (unsigned i = 0; i < TABLE_ENTRIES; i++) {
         uint32_t *entry = run->table + ENTRY_WORDS * i;
 
@@ -56,6 +59,7 @@ static void draw_memory(struct run *run)
     }
     for (unsigned i = 0; i < SEMAPHORES; i++)
         run->semaphores[i] = draw_handle(run);
+    run->clock = high << 32 | draw_handle(run);
 }
 
 /* G33: any mask, and put at the end. The limit is the last word's address or above; without words it may be
@@ -123,8 +127,13 @@ static const char *state_breach(const struct channel *channel, uint32_t refusal)
 
 static const char *step_breach(struct run *run)
 {
-    struct lent lent = {run->words,      run->word_count, NULL, 0, run->table, ENTRY_WORDS * TABLE_ENTRIES,
-                        run->semaphores, SEMAPHORES};
+    struct lent lent = {.words = run->words,
+                        .word_count = run->word_count,
+                        .table = run->table,
+                        .table_count = ENTRY_WORDS * TABLE_ENTRIES,
+                        .semaphores = run->semaphores,
+                        .semaphore_count = SEMAPHORES,
+                        .clock = run->clock};
     const char *breach = is_reading(&run->channel) ? reading_breach(run) : NULL;
 
     if (breach != NULL)

@@ -100,8 +100,11 @@ static uint32_t end_of(const struct channel *channel, const struct lent *lent)
 static struct traced trace_words(FILE *out, const uint32_t *words, size_t count)
 {
     uint32_t semaphores[TRACE_SEMAPHORES] = {0};
-    struct lent lent = {
-        .words = words, .word_count = count, .semaphores = semaphores, .semaphore_count = TRACE_SEMAPHORES};
+    struct lent lent = {.words = words,
+                        .word_count = count,
+                        .semaphores = semaphores,
+                        .semaphore_count = TRACE_SEMAPHORES,
+                        .clock = 0};
     struct channel channel = open_channel(count);
     struct traced traced = {0};
     uint32_t steps = 0;

@@ -7,7 +7,7 @@
 
 #include "draw.h"
 
-enum { KINDS = 16, ANSWERS = 64 };
+enum { KINDS = 32, ANSWERS = 64 };
 
 /* The numbers still to be drawn, and what was counted so far. */
 struct vectors {

@@ -137,7 +137,7 @@ module _ (c : Channel) where
       let index = f .1 .1 .1 in
       let run = index .1 .1 in
       let engine = run .1 .1 .1 .1 in
-      let word = engine .1 in
+      let word = engine .1 .1 in
       record {
         setup = set-up (c .setup) (combined (c .setup) .0 (x .0)) (word .0);
         pusher =
@@ -162,6 +162,8 @@ module _ (c : Channel) where
               dma = word .1 .1 .1 .0;
               offset = word .1 .1 .1 .1 .0;
               value = word .1 .1 .1 .1 .1 .0;
+              address = engine .1 .0;
+              sequence = word .1 .1 .1 .1 .1 .1 .0;
             };
       }
 
@@ -183,7 +185,7 @@ module _ (c : Channel) where
               wide (c .setup) (c .pusher .main .mget) low (a .mget),
               (
                 p .ib-get,
-                (p .ib-put, (p .run .count, (p .mask, (p .run .method, (p .run .subchannel, (q .last, (s .limit, (a .back .0, (q .reference, (q .dma, (q .offset, (q .value, tt)))))))))))),
+                (p .ib-put, (p .run .count, (p .mask, (p .run .method, (p .run .subchannel, (q .last, (q .address, (s .limit, (a .back .0, (q .reference, (q .dma, (q .offset, (q .value, (q .sequence, tt)))))))))))))),
               ),
             ),
           ),

@@ -174,6 +174,7 @@ at-rest s mask active =
       reference = refl;
       semaphore = refl;
       acquire = refl;
+      long = refl;
       puller-error = refl;
     }
 
@@ -182,7 +183,7 @@ pub rest-is-one : (a b : Channel) → AtRest a → AtRest b → a .setup ≡ b .
 rest-is-one a b x y setup sli =
     let e = pusher.error-told (a .pusher .error) (b .pusher .error) (x .pusher-error ∙ sym (y .pusher-error)) in
     let f = puller.error-told (a .puller .error) (b .puller .error) (x .puller-error ∙ sym (y .puller-error)) in
-    rw (setup, sli, x .get, y .get, x .put, y .put, x .run, y .run, x .subroutine, y .subroutine, x .ib, y .ib, x .main, y .main, e, x .engines, y .engines, x .last, y .last, x .reference, y .reference, x .semaphore, y .semaphore, x .acquire, y .acquire, f)
+    rw (setup, sli, x .get, y .get, x .put, y .put, x .run, y .run, x .subroutine, y .subroutine, x .ib, y .ib, x .main, y .main, e, x .engines, y .engines, x .last, y .last, x .reference, y .reference, x .semaphore, y .semaphore, x .acquire, y .acquire, x .long, y .long, f)
 
 pub blank-is : Blank blankChannel
 blank-is = record { rest = at-rest _ _ _; level = refl; mode = refl; sli = refl; limit = refl; order = refl; mask = refl; active = refl }

@@ -26,8 +26,10 @@ use Rattle.puller.specs.Record as puller-record
 use Rattle.puller.specs.Taking.{Result, takeOf, retryOf}
 use Rattle.puller.specs.Contracts.{Takes}
 use Rattle.puller.specs.Answers.{repeatNumber, repeatValues}
+use Rattle.puller.specs.Promises as puller
 use Rattle.puller.specs.Promises.{StoppedBy}
 use Rattle.puller.specs.declared.record.Puller.{Puller}
+use Rattle.puller.specs.declared.record.PullerError.{PullerError}
 use Rattle.puller.specs.declared.taking.Taken.{Taken}
 use Rattle.puller.proofs.Promises.{looks, first-repeat, pulls, retrying}
 use Rattle.puller.proofs.Failing as puller-failing
@@ -164,7 +166,7 @@ accepted =
     }
 
 pub lends : Lends
-lends ws es t sems = refl
+lends ws es t sems clock = refl
 
 pub one : One
 one =
@@ -182,7 +184,7 @@ plainly :
     → Leaves c p q (values e) r × (exit ≡ memory)
 plainly h = (leaves-plainly (h .0), h .1)
 
-says : Sentences StepsTo
+pub says : Sentences StepsTo
 unfolding values
 says =
     record {
@@ -239,6 +241,14 @@ module _ (c : Channel) (l : Loan) (exit : List ℕ) (r : Stepped) (h : StepsTo c
 
   retried-is : c .puller .acquire .active ≡ true → Leaves c (c .pusher) (retried .puller) (values (retried .event)) r × (exit ≡ l .puller .semaphores)
   retried-is a = says .retry c l exit retried r h k run a refl
+
+  -- a retry that fails
+  retry-raises :
+      {e : PullerError}
+      → c .puller .acquire .active ≡ true
+      → puller.Fails (c .puller) e retried
+      → Raises c l r exit × (r .channel .pusher ≡ c .pusher) × puller.Failed (c .puller) e (r .channel .puller)
+  retry-raises a f = let left = retried-is a in (raised left (f .event) refl, left .0 .channel .pusher, rw (left .0 .channel .puller) (f .puller))
 
   -- P20, P21
   module _ (fails : puller-record.number (r .channel .puller .error) ≡ 0 → ⊥) where
@@ -314,10 +324,10 @@ steps =
       protection-error = λ c l exit r h k run e.
           pusher-fails c l exit r h k run _ 6 (λ z. omega arith) (λ x m left. failing .protection (c .setup) (c .pusher) (l .pusher) x m (run .0) (rw left at e));
       puller-error = λ c l exit r h k run fails. take-error c l exit r h k run fails (c .puller .acquire .active) refl;
-      retry-past-end = λ c l exit e r h k run a past.
-          let left = retried-is c l exit r h k run a in
-          let f = retrying .past-end (c .setup .setting .level) (c .puller) (l .puller .semaphores) e _ refl past in
-          (raised c l exit r h k run left (f .event) refl, left .0 .channel .pusher, rw (left .0 .channel .puller) (f .puller));
+      retry-past-end = λ c l exit e r h k run a old past.
+          retry-raises c l exit r h k run a (retrying .past-end (c .setup .setting .level) (c .puller) (l .puller .semaphores) e _ refl old past);
+      long-retry-past-end = λ c l exit r h k run a long past.
+          retry-raises c l exit r h k run a (retrying .long-past-end (c .setup .setting .level) (c .puller) (l .puller .semaphores) _ refl long past);
     }
 
 -- No case is left open: at each, the sentence that applies says of R and of `step` the same.

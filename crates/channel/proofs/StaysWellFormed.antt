@@ -69,6 +69,8 @@ resting s mask active u h =
             dma = omega arith;
             offset = omega arith;
             value = omega arith;
+            address = omega arith;
+            sequence = omega arith;
           };
     }
 

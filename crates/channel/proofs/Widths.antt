@@ -14,7 +14,7 @@ use Rattle.word.specs.Lowest.{lowest, found?}
 use Rattle.puller.specs.Record.{engineOf}
 use Rattle.puller.specs.declared.record.Puller.{Puller}
 use Rattle.word.proofs.Lowest.{lowest-at}
-use Rattle.channel.specs.State.{setupFits, Width, _in-bits_, within, addressWidths, runWidths, engineWidths, engineTooWide, enginesFit, otherWidths, addresses, aligned, wellFormed}
+use Rattle.channel.specs.State.{setupFits, Width, _in-bits_, within, addressWidths, runWidths, pullerWidths, engineTooWide, enginesFit, otherWidths, addresses, aligned, wellFormed}
 use Rattle.channel.specs.declared.record.Channel.{Channel}
 use Rattle.channel.proofs.record.Channel.{the-type}
 
@@ -74,6 +74,7 @@ others c vs h =
     ∙ narrow _ 32 _ (semaphore .1 .1 .0 .1)
     ∙ narrow _ 32 _ (semaphore .1 .1 .1 .0 .1)
     ∙ narrow _ 32 _ (puller .1 .1 .0 .1 .1 .1 .0 .1)
+    ∙ narrow _ 32 _ (puller .1 .1 .1 .1 .0 .1 .1 .1 .0 .1)
     ∙ (unfold within in refl)
 
 -- it is then well-formed where its parts are, in the order of the tests
@@ -90,12 +91,12 @@ pub well-formed :
     → wellFormed c
     ≡ (setupFits (c .setup)
     && ((within (addressWidths (c .setup) (c .pusher)) && aligned (addresses (c .pusher)))
-    && (within (runWidths (c .pusher)) && (within (engineWidths (c .puller)) && enginesFit (c .puller)))))
+    && (within (runWidths (c .pusher)) && (within (pullerWidths (c .puller)) && enginesFit (c .puller)))))
 unfolding wellFormed
 well-formed c h =
     let a = addressWidths (c .setup) (c .pusher) in
     let r = runWidths (c .pusher) in
-    let e = engineWidths (c .puller) in
+    let e = pullerWidths (c .puller) in
     rw (within-append a (r ++ (e ++ otherWidths c)), within-append r (e ++ otherWidths c), within-append e (otherWidths c), h)
     (ap (λ (b : Bool). setupFits (c .setup) && b) (shuffle (within a) (within r) (within e) (aligned (addresses (c .pusher))) (enginesFit (c .puller))))
 

@@ -10,9 +10,9 @@ pub record Loan : Type 0 where
   pub pusher : PusherLoan
   pub puller : PullerLoan
 
--- of words, IB entries, object table and semaphore words
-abbrev pub toStep : List ℕ → List ℕ → List ℕ → List ℕ → Loan
-toStep ws es t sems = record { pusher = toPusher ws es; puller = toPuller t sems }
+-- of words, IB entries, object table, semaphore words and the clock
+abbrev pub toStep : List ℕ → List ℕ → List ℕ → List ℕ → ℕ → Loan
+toStep ws es t sems clock = record { pusher = toPusher ws es; puller = toPuller t sems clock }
 
 -- the loan with other semaphore words
 abbrev pub withSemaphores : Loan → List ℕ → Loan

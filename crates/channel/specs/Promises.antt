@@ -1,6 +1,6 @@
 -- The promises about a channel, each a statement that is proved under its own name in proofs/. They speak of the public
 -- functions through their contracts (Contracts.antt): of everything that a contract allows.
-use Prim.Native.Nat.{ℕ, _*_, _%_, _^_, _≤_, _<_}
+use Prim.Native.Nat.{ℕ, _*_, _/_, _%_, _^_, _≤_, _<_}
 use mathlib.Core.Path.{_≡_}
 use mathlib.Core.Bool.{Bool, true, false}
 use mathlib.Core.List.{List, [], _∷_}
@@ -19,6 +19,8 @@ use Rattle.puller.specs.Promises as puller
 use Rattle.puller.specs.Widths.{PullerFits}
 use Rattle.puller.specs.declared.record.Puller.{Puller}
 use Rattle.puller.specs.declared.record.PullerError.{PullerError}
+use Rattle.puller.specs.declared.record.PullerError.the-variants as cause
+use Rattle.puller.specs.declared.record.AcquireMode.the-variants as mode
 use Rattle.puller.specs.declared.taking.Taken.{Taken}
 use Rattle.pusher.specs.Record as pusher-record
 use Rattle.pusher.specs.Loan.{PusherLoan}
@@ -95,7 +97,8 @@ pub record AtRest (c : Channel) : Type 0 where
   pub last : c .puller .last ≡ 0
   pub reference : c .puller .reference ≡ 0
   pub semaphore : c .puller .semaphore ≡ record { dma = 0; offset = 0; valid = false }
-  pub acquire : c .puller .acquire ≡ record { active = false; value = 0 }
+  pub acquire : c .puller .acquire ≡ record { active = false; value = 0; mode = mode.Old }
+  pub long : c .puller .long ≡ record { address = 0; sequence = 0 }
   pub puller-error : puller-record.number (c .puller .error) ≡ 0
 
 -- S1: a fresh channel
@@ -191,11 +194,12 @@ pub record Accepted : Type 0 where
       → c .setup .setting .mode .number ≡ 1
       → Halves c (pusher-record.withIb (c .pusher) (c .pusher .ib .get) p) (c .puller) (r .channel)
 
--- What `step` is lent, by its own arguments, is what its contract speaks of, whole: words, IB entries, object table, semaphore words.
+-- What `step` is lent, by its own arguments, is what its contract speaks of, whole: words, IB entries, object table, semaphore words,
+-- and the clock.
 abbrev pub Lends : Type 0
 Lends =
-    (ws es t sems : List ℕ)
-    → toStep ws es t sems ≡ record { pusher = record { words = ws; entries = es }; puller = record { table = t; semaphores = sems } }
+    (ws es t sems : List ℕ) (clock : ℕ)
+    → toStep ws es t sems clock ≡ record { pusher = record { words = ws; entries = es }; puller = record { table = t; semaphores = sems; clock = clock } }
 
 -- Each contract leaves one outcome: any two that it allows are equal.
 pub record One : Type 0 where
@@ -364,8 +368,43 @@ pub record Steps : Type 0 where
       → Takable c l
       → Running c
       → c .puller .acquire .active ≡ true
+      → c .puller .acquire .mode ≡ mode.Old
       → puller.PastEnd (c .setup .setting .level) (c .puller) (l .puller .semaphores) e
       → Raises c l r exit × (r .channel .pusher ≡ c .pusher) × puller.Failed (c .puller) e (r .channel .puller)
+  -- P31: nor a long one
+  pub long-retry-past-end :
+      (c : Channel) (l : Loan) (exit : List ℕ) (r : Stepped)
+      → StepsTo c l r exit
+      → Takable c l
+      → Running c
+      → c .puller .acquire .active ≡ true
+      → (c .puller .acquire .mode ≡ mode.Old → ⊥)
+      → length (l .puller .semaphores) ≤ c .puller .long .address / 4
+      → Raises c l r exit × (r .channel .pusher ≡ c .pusher) × puller.Failed (c .puller) cause.Semaphore4 (r .channel .puller)
+
+-- P32: two channels, and two loans, that differ in the long semaphore and the clock alone
+pub record ButLong (c d : Channel) : Type 0 where
+  pub setup : c .setup ≡ d .setup
+  pub pusher : c .pusher ≡ d .pusher
+  pub puller : puller.ButLong (c .puller) (d .puller)
+
+pub record ButClock (l k : Loan) : Type 0 where
+  pub pusher : l .pusher ≡ k .pusher
+  pub puller : puller.ButClock (l .puller) (k .puller)
+
+-- P32: below level 5, with no long acquire active, a step of either is the step of the other, and the long semaphore stays
+abbrev pub Apart : Type 0
+Apart =
+    (c d : Channel) (l k : Loan) (x y : List ℕ) (a b : Stepped)
+    → StepsTo c l a x
+    → StepsTo d k b y
+    → Takable c l
+    → Takable d k
+    → ButLong c d
+    → ButClock l k
+    → c .setup .setting .level .number < 5
+    → (c .puller .acquire .active ≡ true → c .puller .acquire .mode ≡ mode.Old)
+    → (answerValues (a .answer) ≡ answerValues (b .answer)) × ButLong (a .channel) (b .channel) × (a .channel .puller .long ≡ c .puller .long) × (x ≡ y)
 
 -- and they leave no case open: whatever does what they say does what `step` does.
 abbrev pub NoOther : Type 1

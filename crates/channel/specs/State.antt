@@ -56,9 +56,9 @@ addressWidths s p =
 abbrev pub runWidths : Pusher → List Width
 runWidths p = p .run .count in-bits 24 ∷ p .sli .mask in-bits 12 ∷ p .run .method in-bits 11 ∷ p .run .subchannel in-bits 3 ∷ []
 
--- R32: the last engine, and each of the eight that are bound
-abbrev pub engineWidths : Puller → List Width
-engineWidths p = p .last in-bits 5 ∷ []
+-- R32: the last engine and the long semaphore's address, and each of the eight engines that are bound
+abbrev pub pullerWidths : Puller → List Width
+pullerWidths p = p .last in-bits 5 ∷ p .long .address in-bits 40 ∷ []
 
 abbrev pub engineTooWide : Puller → ℕ → Bool
 engineTooWide p subchannel = leb (2 ^ 5) (engineOf p subchannel)
@@ -75,10 +75,11 @@ otherWidths c =
     ∷ c .puller .semaphore .dma in-bits 32
     ∷ c .puller .semaphore .offset in-bits 32
     ∷ c .puller .acquire .value in-bits 32
+    ∷ c .puller .long .sequence in-bits 32
     ∷ []
 
 abbrev pub widths : Channel → List Width
-widths c = addressWidths (c .setup) (c .pusher) ++ (runWidths (c .pusher) ++ (engineWidths (c .puller) ++ otherWidths c))
+widths c = addressWidths (c .setup) (c .pusher) ++ (runWidths (c .pusher) ++ (pullerWidths (c .puller) ++ otherWidths c))
 
 -- R33: the addresses that are multiples of 4
 abbrev pub addresses : Pusher → List ℕ

@@ -4,8 +4,10 @@ ghost use mathlib.Core.Bool.{true, _&&_};
 ghost use Prim.Native.Nat.{_^_};
 ghost use Rattle.channel.specs.Record.{withHalves};
 ghost use Rattle.channel.specs.Opening.{restingAt};
-ghost use Rattle.channel.specs.State.{setupFits, within, aligned, addressBits, addressWidths, addresses, runWidths, engineWidths, enginesFit, wellFormed};
+ghost use Rattle.channel.specs.State.{setupFits, within, aligned, addressBits, addressWidths, addresses, runWidths, pullerWidths, enginesFit, wellFormed};
 use puller::Acquire;
+use puller::AcquireMode;
+use puller::LongSemaphore;
 use puller::Puller;
 use puller::PullerError;
 use puller::Semaphore;
@@ -65,8 +67,13 @@ pub(crate) fn resting(setup: Setup, mask: u32, active: bool) -> Channel
         acquire: Acquire {
             active: false,
             value: 0,
+            mode: AcquireMode::Old,
         },
         error: PullerError::None,
+        long: LongSemaphore {
+            address: 0,
+            sequence: 0,
+        },
     };
     Channel {
         setup,
@@ -179,11 +186,14 @@ fn running(pusher: Pusher) -> bool
     pusher.run.subchannel < 8
 }
 
-// Whether every engine is within its width.
+// Whether the long semaphore's address and every engine are within their widths.
 fn bound(puller: Puller) -> bool
-    ensures { λ r. ⌜ r ≡ within (engineWidths puller) && enginesFit puller ⌝ }
+    ensures { λ r. ⌜ r ≡ within (pullerWidths puller) && enginesFit puller ⌝ }
 {
     if 32 <= puller.last {
+        return false;
+    }
+    if 0x100_0000_0000 <= puller.long.address {
         return false;
     }
     let engines = puller.engines;

@@ -41,16 +41,17 @@ struct Acted {
 }
 
 impl Channel {
-    // One step, with the words of the pushbuffer, the IB entries, the object table and the semaphore
-    // words lent to it.
+    // One step, with the words of the pushbuffer, the IB entries, the object table, the semaphore words
+    // and the clock lent to it.
     pub fn step(
         self,
         words: &[u32],
         entries: &[u64],
         table: &[u32],
         semaphores: &mut [u32],
+        clock: u64,
     ) -> Stepped
-        ensures { λ r. ⌜ StepsTo self (toStep (now (words .entry)) (now (entries .entry)) (now (table .entry)) (now (semaphores .entry))) r (now (semaphores .exit)) ⌝ }
+        ensures { λ r. ⌜ StepsTo self (toStep (now (words .entry)) (now (entries .entry)) (now (table .entry)) (now (semaphores .entry)) clock) r (now (semaphores .exit)) ⌝ }
     {
         if !self.well_formed() {
             return self.refused(Refusal::STATE);
@@ -72,6 +73,7 @@ impl Channel {
             entries,
             table,
             semaphores,
+            clock,
         );
         self.with_acted(acted)
     }
@@ -106,8 +108,9 @@ fn act(
     entries: &[u64],
     table: &[u32],
     semaphores: &mut [u32],
+    clock: u64,
 ) -> Acted
-    ensures { λ r. ⌜ Affects (act setup pusher puller (toStep (now (words .entry)) (now (entries .entry)) (now (table .entry)) (now (semaphores .entry))) (role pusher puller)) r (now (semaphores .exit)) ⌝ }
+    ensures { λ r. ⌜ Affects (act setup pusher puller (toStep (now (words .entry)) (now (entries .entry)) (now (table .entry)) (now (semaphores .entry)) clock) (role pusher puller)) r (now (semaphores .exit)) ⌝ }
 {
     if stopped(pusher, puller) {
         return Acted {
@@ -122,7 +125,14 @@ fn act(
         return wait(setup.setting.level, pusher, puller, semaphores);
     }
     let pushed = push(setup, pusher, words, entries);
-    finish(setup.setting.level, pushed, puller, table, semaphores)
+    finish(
+        setup.setting.level,
+        pushed,
+        puller,
+        table,
+        semaphores,
+        clock,
+    )
 }
 
 // Whether an error of either half has stopped the channel.
@@ -156,8 +166,9 @@ fn finish(
     puller: Puller,
     table: &[u32],
     semaphores: &mut [u32],
+    clock: u64,
 ) -> Acted
-    ensures { λ r. ⌜ Affects (finished level (pushed .pusher) puller (pushed .did) (toPuller (now (table .entry)) (now (semaphores .entry)))) r (now (semaphores .exit)) ⌝ }
+    ensures { λ r. ⌜ Affects (finished level (pushed .pusher) puller (pushed .did) (toPuller (now (table .entry)) (now (semaphores .entry)) clock)) r (now (semaphores .exit)) ⌝ }
 {
     let pusher = pushed.pusher;
     let did = pushed.did;
@@ -168,7 +179,7 @@ fn finish(
             puller,
         },
         Did::Submit { method } => {
-            let taken = take(level, puller, method, table, semaphores);
+            let taken = take(level, puller, method, table, semaphores, clock);
             let event = taken.event;
             let puller = taken.puller;
             Acted {

@@ -90,4 +90,12 @@ pub(crate) const ACQUIRE_VALUE: usize = 39;
 
 pub(crate) const PULLER_ERROR: usize = 40;
 
-pub(crate) const CHANNEL_WORDS: usize = 41;
+pub(crate) const SEMAPHORE_ADDRESS: usize = 41;
+
+pub(crate) const SEMAPHORE_ADDRESS_HIGH: usize = 42;
+
+pub(crate) const SEMAPHORE_SEQUENCE: usize = 43;
+
+pub(crate) const ACQUIRE_MODE: usize = 44;
+
+pub(crate) const CHANNEL_WORDS: usize = 45;

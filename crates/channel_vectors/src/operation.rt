@@ -7,6 +7,7 @@ use crate::difference::far;
 use crate::difference::first;
 use crate::difference::same;
 use crate::difference::unknown;
+use crate::input::next_pair;
 use crate::input::next_word;
 use crate::outcome::Outcome;
 use crate::outcome::put_set;
@@ -93,7 +94,7 @@ fn stored(pair: Pair, semaphores: &mut [u32]) -> Done {
     }
 }
 
-// How much is lent to a step of a run, in one word.
+// How much is lent to a step of a run, in one word; then the clock.
 fn next_lent() -> Lent {
     let word = next_word() as usize;
     Lent {
@@ -101,6 +102,7 @@ fn next_lent() -> Lent {
         entries: word / 0x100 % 0x100,
         table: word / 0x1_0000 % 0x100,
         semaphores: word / 0x100_0000,
+        clock: next_pair(),
     }
 }
 

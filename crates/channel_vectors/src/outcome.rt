@@ -81,6 +81,7 @@ pub(crate) fn stepped(
         &entries[..e],
         &table[..t],
         &mut semaphores[..s],
+        lent.clock,
     ))
 }
 

@@ -16,12 +16,13 @@ const TABLE_WORD: u32 = 0x8000_0000;
 
 pub const TABLE_WORDS: usize = 4104;
 
-// How much of each pool is lent to a step.
+// How much of each pool is lent to a step, and the clock.
 pub struct Lent {
     pub words: usize,
     pub entries: usize,
     pub table: usize,
     pub semaphores: usize,
+    pub clock: u64,
 }
 
 // What a record gives: how many words of the table, and its entries.

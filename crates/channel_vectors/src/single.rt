@@ -4,6 +4,7 @@ use crate::difference::far;
 use crate::difference::first;
 use crate::difference::same;
 use crate::difference::unknown;
+use crate::input::next_pair;
 use crate::input::next_word;
 use crate::layout::CHANNEL_WORDS;
 use crate::operation::PUT;
@@ -48,6 +49,7 @@ pub(crate) fn single(small: &mut [u32], large: &mut [u32], table: &mut [u32]) ->
         entries: next_word() as usize,
         table: next_word() as usize,
         semaphores: next_word() as usize,
+        clock: next_pair(),
     };
     if lent.semaphores < lent.words {
         return single_in(given, lent, large, table, small);

@@ -5,6 +5,8 @@ use crate::layout;
 use crate::layout::CHANNEL_WORDS;
 use channel::Channel;
 use puller::Acquire;
+use puller::AcquireMode;
+use puller::LongSemaphore;
 use puller::Puller;
 use puller::PullerError;
 use puller::Semaphore;
@@ -164,8 +166,16 @@ fn puller_of(q: [u32; CHANNEL_WORDS]) -> Puller {
     let acquire = Acquire {
         active: flag(q[layout::ACQUIRE_ACTIVE]),
         value: q[layout::ACQUIRE_VALUE],
+        mode: acquire_mode(q[layout::ACQUIRE_MODE]),
     };
     let error = puller_error(q[layout::PULLER_ERROR]);
+    let long = LongSemaphore {
+        address: pair_of(
+            q[layout::SEMAPHORE_ADDRESS],
+            q[layout::SEMAPHORE_ADDRESS_HIGH],
+        ),
+        sequence: q[layout::SEMAPHORE_SEQUENCE],
+    };
     Puller {
         engines,
         last: q[layout::LAST_ENGINE],
@@ -173,6 +183,7 @@ fn puller_of(q: [u32; CHANNEL_WORDS]) -> Puller {
         semaphore,
         acquire,
         error,
+        long,
     }
 }
 
@@ -180,6 +191,8 @@ fn with_puller(words: [u32; CHANNEL_WORDS], puller: Puller) -> [u32; CHANNEL_WOR
     let mut words = words;
     let engines = puller.engines;
     let error = puller.error;
+    let acquire = puller.acquire;
+    let mode = acquire.mode;
     words[layout::ENGINE_0] = engines[0];
     words[layout::ENGINE_1] = engines[1];
     words[layout::ENGINE_2] = engines[2];
@@ -193,9 +206,13 @@ fn with_puller(words: [u32; CHANNEL_WORDS], puller: Puller) -> [u32; CHANNEL_WOR
     words[layout::DMA_SEMAPHORE] = puller.semaphore.dma;
     words[layout::SEMAPHORE_OFFSET] = puller.semaphore.offset;
     words[layout::OFFSET_VALID] = number(puller.semaphore.valid);
-    words[layout::ACQUIRE_ACTIVE] = number(puller.acquire.active);
-    words[layout::ACQUIRE_VALUE] = puller.acquire.value;
+    words[layout::ACQUIRE_ACTIVE] = number(acquire.active);
+    words[layout::ACQUIRE_VALUE] = acquire.value;
     words[layout::PULLER_ERROR] = error.number();
+    words[layout::SEMAPHORE_ADDRESS] = low(puller.long.address);
+    words[layout::SEMAPHORE_ADDRESS_HIGH] = high(puller.long.address);
+    words[layout::SEMAPHORE_SEQUENCE] = puller.long.sequence;
+    words[layout::ACQUIRE_MODE] = mode_number(mode);
     words
 }
 
@@ -220,6 +237,23 @@ fn puller_error(number: u32) -> PullerError {
         5 => PullerError::Semaphore3,
         6 => PullerError::Semaphore4,
         _ => PullerError::None,
+    }
+}
+
+// The modes of an acquire: old, equal, greater or equal.
+fn acquire_mode(number: u32) -> AcquireMode {
+    match number {
+        1 => AcquireMode::Equal,
+        2 => AcquireMode::GreaterOrEqual,
+        _ => AcquireMode::Old,
+    }
+}
+
+fn mode_number(mode: AcquireMode) -> u32 {
+    match mode {
+        AcquireMode::Old => 0,
+        AcquireMode::Equal => 1,
+        AcquireMode::GreaterOrEqual => 2,
     }
 }
 

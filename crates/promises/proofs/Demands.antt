@@ -3,6 +3,7 @@ use Rattle.word.proofs.Promises as word
 use Rattle.word.proofs.Forms as word-forms
 use Rattle.word.proofs.Told as word-told
 use Rattle.event.proofs.Promises as event
+use Rattle.puller.proofs.Apart as puller-apart
 use Rattle.puller.proofs.Failing as puller-failing
 use Rattle.puller.proofs.Promises as puller
 use Rattle.puller.proofs.Widths as puller-widths
@@ -10,6 +11,7 @@ use Rattle.pusher.proofs.Failing as pusher-failing
 use Rattle.pusher.proofs.Promises as pusher
 use Rattle.pusher.proofs.Told as pusher-told
 use Rattle.pusher.proofs.Widths as pusher-widths
+use Rattle.channel.proofs.Apart as channel-apart
 use Rattle.channel.proofs.AtMostOneMove as channel-moves
 use Rattle.channel.proofs.Idling as channel-idling
 use Rattle.channel.proofs.Promises as channel
@@ -59,6 +61,9 @@ second =
       pusher-failing = pusher-failing.failing;
       puller-failing = puller-failing.failing;
       first-repeat = puller.first-repeat;
+      signed = puller.signed;
+      puller-apart = puller-apart.apart;
+      channel-apart = channel-apart.apart;
       channel-no-other = channel.no-other;
       pusher-no-other = pusher.no-other;
       puller-no-other = puller.no-other;

@@ -57,6 +57,10 @@ pub record Second : Type 1 where
   pub pusher-failing : pusher.Failing
   pub puller-failing : puller.Failing
   pub first-repeat : puller.FirstRepeat
+  -- when a long acquire passes, in numbers; and what neither the clock nor the long semaphore has a part in
+  pub signed : puller.Signed
+  pub puller-apart : puller.Apart
+  pub channel-apart : channel.Apart
   -- and the sentences leave no case open
   pub channel-no-other : channel.NoOther
   pub pusher-no-other : pusher.NoOther

@@ -14,7 +14,7 @@ use Rattle.puller.specs.declared.record.PullerError.the-variants as caus
 use Rattle.puller.specs.declared.record.Puller.{Puller}
 use Rattle.puller.specs.declared.taking.Taken.{Taken}
 use Rattle.puller.proofs.Leaving.{failed-by, failed-fails}
-use Rattle.puller.proofs.Ways.{by-retry, After, unchanged, boundLast, referred, semaphoreBound, offset, waiting, forwarded, Way, failed, failedBound, done, released, goes}
+use Rattle.puller.proofs.Ways.{by-retry, After, unchanged, boundLast, referred, semaphoreBound, offset, waiting, waitingLong, addressed, sequenced, forwarded, Way, failed, failedBound, done, released, releasedLong, goes}
 
 -- a method that is done leaves the error as it was
 same-error : {p : Puller} {m : Method} {t : List ℕ} {q : Puller} → After p m t q → q .error ≡ p .error
@@ -24,6 +24,9 @@ same-error referred = refl
 same-error (semaphoreBound o n) = refl
 same-error (offset valid) = refl
 same-error waiting = refl
+same-error (waitingLong a) = refl
+same-error (addressed h) = refl
+same-error sequenced = refl
 same-error forwarded = refl
 
 module _ (p : Puller) (run : number (p .error) ≡ 0) where
@@ -38,6 +41,7 @@ module _ (p : Puller) (run : number (p .error) ≡ 0) where
   quiet {m} o (failedBound z) n = (refl, refl, inr (rw z (failed-by (withEngine p (m .subchannel) 0) cause.EmptySubchannel)))
   quiet o (done k x h) n = absurd (n (ap number (same-error h) ∙ run))
   quiet o released n = absurd (n run)
+  quiet o releasedLong n = absurd (n run)
 
   -- a retry that has failed changes nothing but the error
   abbrev Only : Taken → Type 0

@@ -26,7 +26,7 @@ says-leaves h = rw h (record { puller = refl; event = refl })
 
 -- a puller stopped by an error, all else as it was; and an answer that is so and says it
 pub failed-by : (p : Puller) (e : PullerError) → Failed p e (withError p e)
-failed-by p e = record { engines = refl; last = refl; reference = refl; semaphore = refl; acquire = refl; error = refl }
+failed-by p e = record { engines = refl; last = refl; reference = refl; semaphore = refl; acquire = refl; error = refl; long = refl }
 
 pub failed-fails : {p : Puller} {e : PullerError} {r : Taken} → r ≡ failedBy p e → Fails p e r
 failed-fails {p} {e} h = let said = says-leaves h in record { puller = rw (said .puller) (failed-by p e); event = said .event }
@@ -39,7 +39,7 @@ leaves-one {a = a} {b = b} x y =
     rw (puller, event)
 
 failed-is : {p : Puller} {e : PullerError} {q : Puller} → Failed p e q → q ≡ withError p e
-failed-is h = rw (h .engines, h .last, h .reference, h .semaphore, h .acquire, h .error)
+failed-is h = rw (h .engines, h .last, h .reference, h .semaphore, h .acquire, h .error, h .long)
 
 pub fails-one : {p : Puller} {e : PullerError} {a b : Taken} → Fails p e a → Fails p e b → a ≡ b
 fails-one x y = leaves-one (stops x) (stops y)

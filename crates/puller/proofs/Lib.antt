@@ -5,8 +5,10 @@ pub mod Engines
 pub mod Deeds
 pub mod Causes
 pub mod Sentences
+pub mod Long
 pub mod Promises
 pub mod Ways
 pub mod Failing
 pub mod Telling
 pub mod Widths
+pub mod Apart

@@ -7,7 +7,7 @@ use mathlib.Core.Logic.{_⊎_, inl, inr, ⊎-elim, by-cases, _↔_}
 use native.Mathlib.Decide.{ℕ-discrete, decLt}
 use native.Mathlib.Omega.{arith}
 use lib.Dec.{eqb}
-use lib.ListN.{length, set}
+use lib.ListN.{length, getD, set}
 use borrow.Author.Tests.{lt-ltb, le-ltb, le-leb, lt-leb, eq-eqb, ne-eqb, ltb-true, ltb-false, not-true}
 use Rattle.word.specs.Parts.{bits}
 use Rattle.word.specs.declared.setting.Level.{Level}
@@ -18,12 +18,14 @@ use Rattle.event.specs.declared.Method.{Method}
 use Rattle.puller.specs.Loan.{PullerLoan}
 use Rattle.puller.specs.Object.{lookupOf}
 use Rattle.puller.specs.Record.{engineOf, withEngine, withLast, withAcquire, withDma, withOffset}
-use Rattle.puller.specs.Taking.{doneWith, failedBy, lookingUp, bindTo, bindOf, unfitFor, dmaTo, dmaOf, offsetOf, unreadyAt, placeOf, pastEnd, trialOf, tried, acquireOf, forwardOf, forwardObjectOf, unwritten, releaseOf, Deed, deedOf, act, takeOf}
+use Rattle.puller.specs.Taking.{doneWith, failedBy, lookingUp, bindTo, bindOf, unfitFor, dmaTo, dmaOf, offsetOf, unreadyAt, placeIn, pastEnd, ahead, passesIn, trialOf, tried, acquireIn, acquireOf, forwardOf, forwardObjectOf, unwritten, releaseOf, Deed, deedOf, act, takeOf}
 use Rattle.puller.specs.Contracts.{Takes}
-use Rattle.puller.specs.Promises.{Names, NamesNone, Unready, Ready, Inside, PastEnd, wordIn, Unfit}
+use Rattle.puller.specs.Promises.{Names, NamesNone, Unready, Ready, Inside, PastEnd, wordIn, NotBehind, Passes, Unfit}
 use Rattle.puller.specs.declared.object.Object.{Object}
 use Rattle.puller.specs.declared.record.PullerError.{PullerError}
 use Rattle.puller.specs.declared.record.PullerError.the-variants as cause
+use Rattle.puller.specs.declared.record.AcquireMode.{AcquireMode}
+use Rattle.puller.specs.declared.record.AcquireMode.the-variants as mode
 use Rattle.puller.specs.declared.record.Puller.{Puller}
 use Rattle.puller.specs.declared.taking.Taken.{Taken}
 use Rattle.puller.proofs.Table.{named-is, unnamed-is}
@@ -32,7 +34,7 @@ use Rattle.puller.proofs.Table.{named-is, unnamed-is}
 pub taken-as :
     {level : Level} {p : Puller} {m : Method} {l : PullerLoan} {r : Taken} {exit : List ℕ} (d : Deed)
     → Takes level p m l r exit
-    → deedOf (m .method) ≡ d
+    → deedOf (level .number) (m .method) ≡ d
     → {x : Taken} {y : List ℕ}
     → act (level .number) p m l d .taken ≡ x
     → act (level .number) p m l d .memory ≡ y
@@ -53,6 +55,11 @@ module _ (p : Puller) (t : List ℕ) (h : ℕ) (next : Object → Taken) where
   unfolding lookingUp
   none-is n = rw (unnamed-is t h n)
 
+-- what a test tells is so, or is not
+either : (b : Bool) {P : Type 0} → b ≡ true ↔ P → P ⊎ (P → ⊥)
+either true e = inl (e .0 refl)
+either false e = inr (λ p. false≢true (e .1 p))
+
 -- an object that can't be a semaphore's
 set-or-not : (b : Bool) → not b ≡ true ↔ (b ≡ false)
 set-or-not b = (not-true b, λ e. rw e)
@@ -64,11 +71,7 @@ unfit-is level o =
     (or-plain _ _ (not-plain _ (equal-plain (o .class) 2)) (or-plain _ _ (set-or-not (o .writeonly)) (set-or-not (o .paged))))
 
 pub unfit-or-not : (level : Level) (o : Object) → Unfit level o ⊎ (Unfit level o → ⊥)
-unfit-or-not level o = go (unfitFor (level .number) o) refl
-  where
-    go : (b : Bool) → unfitFor (level .number) o ≡ b → Unfit level o ⊎ (Unfit level o → ⊥)
-    go true e = inl (unfit-is level o .0 e)
-    go false e = inr (λ u. false≢true (sym e ∙ unfit-is level o .1 u))
+unfit-or-not level o = either (unfitFor (level .number) o) (unfit-is level o)
 
 module _ (p : Puller) (m : Method) (t : List ℕ) where
   module _ (n : NamesNone t (m .parameter)) where
@@ -176,11 +179,11 @@ module _ (level : Level) (p : Puller) where
       from-4 l false e = inl (inr (l, e))
 
   module _ (sems : List ℕ) where
-    past-end-is : (e : PullerError) → PastEnd level p sems e → pastEnd (level .number) ≡ e
+    pub past-end-is : (e : PullerError) → PastEnd level p sems e → pastEnd (level .number) mode.Old ≡ e
     unfolding pastEnd
     past-end-is e h = by-test (λ (x : PullerError). x ≡ e) (λ l. sym (h .below-4 (ltb-true _ _ l))) (λ l. sym (h .from-4 (ltb-false _ _ l)))
 
-    pub past-end-of : length sems ≤ p .semaphore .offset / 4 → PastEnd level p sems (pastEnd (level .number))
+    pub past-end-of : length sems ≤ p .semaphore .offset / 4 → PastEnd level p sems (pastEnd (level .number) mode.Old)
     unfolding pastEnd
     past-end-of l =
         record {
@@ -189,23 +192,48 @@ module _ (level : Level) (p : Puller) where
           from-4 = λ b. choose-false (le-ltb _ _ b) _ _;
         }
 
--- an acquire, the first time and at a retry: past the end, and the two ways that it has
-module _ (level : Level) (p : Puller) (value : ℕ) (sems : List ℕ) (passes waits : Taken) where
+-- less than 2^31 ahead of a value, modulo 2^32, is not behind it
+ahead-is : (word value : ℕ) → (ahead word value < 2 ^ 31) ↔ NotBehind word value
+ahead-is word value = (
+  λ h. record { difference = ahead word value; not-negative = h; comes = omega arith },
+  λ n. omega arith,
+)
+
+-- a word lets an acquire pass, or does not
+pub passes-is : (a : AcquireMode) (word value : ℕ) → passesIn a word value ≡ true ↔ Passes a word value
+unfolding passesIn
+passes-is mode.Old word value = equal-plain word value
+passes-is mode.Equal word value = equal-plain word value
+passes-is mode.GreaterOrEqual word value =
+    let less = less-plain (ahead word value) (2 ^ 31) in
+    let plain = ahead-is word value in
+    (λ e. plain .0 (less .0 e), λ n. less .1 (plain .1 n))
+
+pub passes-or-not : (a : AcquireMode) (word value : ℕ) → Passes a word value ⊎ (Passes a word value → ⊥)
+passes-or-not a word value = either (passesIn a word value) (passes-is a word value)
+
+-- an acquire, the first time and at a retry: past the end, and the two ways that it has; its word is where its mode says
+module _ (p : Puller) (e : PullerError) (a : AcquireMode) {place : ℕ} (at : placeIn p a ≡ place) (value : ℕ) (sems : List ℕ) (passes waits : Taken) where
   abbrev Comes : Taken → Type 0
-  Comes r = tried (level .number) p (trialOf (placeOf p) value sems) passes waits ≡ r
+  Comes r = tried p e (trialOf a (placeIn p a) value sems) passes waits ≡ r
 
-  pub tried-past : (e : PullerError) → PastEnd level p sems e → Comes (failedBy p e)
+  pub tried-past : length sems ≤ place → Comes (failedBy p e)
   unfolding trialOf tried
-  tried-past e h = rw (choose-true (le-leb _ _ (h .past))) (ap (failedBy p) (past-end-is level p sems e h))
+  tried-past h = rw (at, choose-true (le-leb _ _ h))
 
-  module _ (inside : Inside p sems) where
-    pub tried-equal : wordIn p sems ≡ value → Comes passes
+  module _ (inside : place < length sems) where
+    pub tried-passes : Passes a (getD sems place 0) value → Comes passes
     unfolding trialOf tried
-    tried-equal e = rw (choose-false (lt-leb _ _ inside), choose-true (eq-eqb _ _ e))
+    tried-passes h = rw (at, choose-false (lt-leb _ _ inside), choose-true (passes-is a _ value .1 h))
 
-    pub tried-unequal : (wordIn p sems ≡ value → ⊥) → Comes waits
+    pub tried-waits : (Passes a (getD sems place 0) value → ⊥) → Comes waits
     unfolding trialOf tried
-    tried-unequal n = rw (choose-false (lt-leb _ _ inside), choose-false (ne-eqb _ _ n))
+    tried-waits n = rw (at, choose-false (lt-leb _ _ inside), choose-false (not-true _ (not-plain _ (passes-is a _ value) .1 n)))
+
+-- in the mode old, its place and its error
+pub old-placed : (p : Puller) (a : AcquireMode) → a ≡ mode.Old → placeIn p a ≡ p .semaphore .offset / 4
+unfolding placeIn
+old-placed p a e = rw e
 
 module _ (level : Level) (p : Puller) (m : Method) (sems : List ℕ) where
   pub acquire-unready : Unready level p → acquireOf (level .number) p m sems ≡ failedBy p cause.Semaphore2
@@ -218,8 +246,11 @@ module _ (level : Level) (p : Puller) (m : Method) (sems : List ℕ) where
 
   module _ (ready : Ready level p) where
     pub acquire-past : (e : PullerError) → PastEnd level p sems e → acquireOf (level .number) p m sems ≡ failedBy p e
-    unfolding acquireOf
-    acquire-past e h = choose-false (ready-is level p ready) _ _ ∙ tried-past level p (m .parameter) sems _ _ e h
+    unfolding acquireOf acquireIn placeIn
+    acquire-past e h =
+        choose-false (ready-is level p ready) _ _
+        ∙ tried-past p _ mode.Old refl (m .parameter) sems _ _ (h .past)
+        ∙ ap (failedBy p) (past-end-is level p sems e h)
 
     pub release-past : (e : PullerError) → PastEnd level p sems e → releaseOf (level .number) p m sems ≡ unwritten sems (failedBy p e)
     unfolding releaseOf
@@ -230,12 +261,12 @@ module _ (level : Level) (p : Puller) (m : Method) (sems : List ℕ) where
 
     module _ (inside : Inside p sems) where
       pub acquire-is : wordIn p sems ≡ m .parameter → acquireOf (level .number) p m sems ≡ doneWith p kind.Acquire m (m .parameter)
-      unfolding acquireOf
-      acquire-is e = choose-false (ready-is level p ready) _ _ ∙ tried-equal level p (m .parameter) sems _ _ inside e
+      unfolding acquireOf acquireIn placeIn
+      acquire-is e = choose-false (ready-is level p ready) _ _ ∙ tried-passes p _ mode.Old refl (m .parameter) sems _ _ inside e
 
-      pub wait-is : (wordIn p sems ≡ m .parameter → ⊥) → acquireOf (level .number) p m sems ≡ doneWith (withAcquire p true (m .parameter)) kind.Wait m (m .parameter)
-      unfolding acquireOf
-      wait-is n = choose-false (ready-is level p ready) _ _ ∙ tried-unequal level p (m .parameter) sems _ _ inside n
+      pub wait-is : (wordIn p sems ≡ m .parameter → ⊥) → acquireOf (level .number) p m sems ≡ doneWith (withAcquire p true (m .parameter) mode.Old) kind.Wait m (m .parameter)
+      unfolding acquireOf acquireIn placeIn
+      wait-is n = choose-false (ready-is level p ready) _ _ ∙ tried-waits p _ mode.Old refl (m .parameter) sems _ _ inside n
 
       pub release-is : releaseOf (level .number) p m sems ≡ record { taken = doneWith p kind.Release m (m .parameter); memory = set sems (p .semaphore .offset / 4) (m .parameter) }
       unfolding releaseOf

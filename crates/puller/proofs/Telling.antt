@@ -10,7 +10,7 @@ use Rattle.event.specs.declared.Event.the-variants.{Plain, Of}
 use Rattle.puller.specs.Loan.{PullerLoan}
 use Rattle.puller.specs.Taking.{Result, takeOf}
 use Rattle.puller.specs.declared.record.Puller.{Puller}
-use Rattle.puller.proofs.Ways.{Way, failed, failedBound, done, released, goes}
+use Rattle.puller.proofs.Ways.{Way, failed, failedBound, done, released, releasedLong, goes}
 
 -- an event tells the method, or that it failed
 abbrev pub Tells : Method → Event → Type 0
@@ -25,6 +25,7 @@ tells m o (failed e) = inl refl
 tells m o (failedBound z) = inl refl
 tells m o (done k x h) = told m k x
 tells m o released = told m _ _
+tells m o releasedLong = told m _ _
 
 pub takes-tell : (level : ℕ) (p : Puller) (m : Method) (l : PullerLoan) → Tells m (takeOf level p m l .taken .event)
 takes-tell level p m l = tells m _ (goes level p m l)

@@ -5,10 +5,10 @@ use mathlib.Core.Bool.{Bool}
 use mathlib.Core.List.{List}
 use Rattle.word.specs.declared.setting.Level.{Level}
 use Rattle.event.specs.declared.Method.{Method}
-use Rattle.puller.specs.Loan.{PullerLoan}
+use Rattle.puller.specs.Loan.{PullerLoan, toPuller}
 use Rattle.puller.specs.Object.{lookupOf, repeatOf}
 use Rattle.puller.specs.Record.{number, halts}
-use Rattle.puller.specs.Taking.{releaseOf, takeOf, retryOf}
+use Rattle.puller.specs.Taking.{Result, takeOf, retryOf}
 use Rattle.puller.specs.declared.object.Found.{Found}
 use Rattle.puller.specs.declared.object.Repeat.{Repeat}
 use Rattle.puller.specs.declared.record.PullerError.{PullerError}
@@ -35,10 +35,13 @@ pub record Takes (level : Level) (p : Puller) (m : Method) (l : PullerLoan) (r :
   pub answer : r ≡ takeOf (level .number) p m l .taken
   pub memory : exit ≡ takeOf (level .number) p m l .memory
 
--- the part of it that writes
-pub record Releases (level : ℕ) (p : Puller) (m : Method) (sems : List ℕ) (r : Taken) (exit : List ℕ) : Type 0 where
-  pub answer : r ≡ releaseOf level p m sems .taken
-  pub memory : exit ≡ releaseOf level p m sems .memory
+-- the parts of it that write, each by what it leaves; and the part that looks at no table
+pub record Writes (o : Result) (r : Taken) (exit : List ℕ) : Type 0 where
+  pub answer : r ≡ o .taken
+  pub memory : exit ≡ o .memory
+
+abbrev pub TakesLong : Level → Puller → Method → List ℕ → ℕ → Taken → List ℕ → Type 0
+TakesLong level p m sems clock r exit = (table : List ℕ) → Takes level p m (toPuller table sems clock) r exit
 
 -- `retry`, of a level, a puller and the semaphore memory, which it leaves
 abbrev pub Retries : Level → Puller → List ℕ → Taken → Type 0

@@ -14,7 +14,7 @@ use Rattle.event.specs.declared.Kind.{Kind}
 use Rattle.event.specs.declared.Kind.the-variants as kind
 use Rattle.event.specs.declared.Method.{Method}
 use Rattle.puller.specs.Loan.{PullerLoan, toPuller}
-use Rattle.puller.specs.Record.{number, withEngine, withLast, withReference, withDma, withOffset, withAcquire, withoutAcquire}
+use Rattle.puller.specs.Record.{number, withEngine, withLast, withReference, withDma, withOffset, withAcquire, withoutAcquire, withAddress, withSequence}
 use Rattle.puller.specs.Answers.{objectValues, foundNumber, foundValues, repeatNumber, repeatValues}
 use Rattle.puller.specs.Contracts.{Finds, Repeats, Numbers, Halts, Takes, Retries}
 use Rattle.puller.specs.declared.object.Object.{Object}
@@ -22,6 +22,8 @@ use Rattle.puller.specs.declared.object.Found.{Found}
 use Rattle.puller.specs.declared.object.Repeat.{Repeat}
 use Rattle.puller.specs.declared.record.PullerError.{PullerError}
 use Rattle.puller.specs.declared.record.PullerError.the-variants as cause
+use Rattle.puller.specs.declared.record.AcquireMode.{AcquireMode}
+use Rattle.puller.specs.declared.record.AcquireMode.the-variants as mode
 use Rattle.puller.specs.declared.record.Puller.{Puller}
 use Rattle.puller.specs.declared.taking.Taken.{Taken}
 
@@ -105,6 +107,42 @@ wordIn p sems = getD sems (p .semaphore .offset / 4) 0
 abbrev pub Unfit : Level → Object → Type 0
 Unfit level o = (level .number < 4) × ((o .class ≡ 2 → ⊥) ⊎ (o .writeonly ≡ false) ⊎ (o .paged ≡ false))
 
+-- P25 to P28: a method of long semaphores, at a level that has them
+abbrev pub IsLong : Level → Method → Type 0
+IsLong level m = (5 ≤ level .number) × ((m .method ≡ 0x10) ⊎ (m .method ≡ 0x14) ⊎ (m .method ≡ 0x18) ⊎ (m .method ≡ 0x1c))
+
+-- P30: the long semaphore's word, and whether it is within the memory
+abbrev pub LongInside : Puller → List ℕ → Type 0
+LongInside p sems = p .long .address / 4 < length sems
+
+abbrev pub longWordIn : Puller → List ℕ → ℕ
+longWordIn p sems = getD sems (p .long .address / 4) 0
+
+-- P30: a word that is not behind a value: less than 2^31 added to the value, modulo 2^32, comes to it
+pub record NotBehind (word value : ℕ) : Type 0 where
+  pub difference : ℕ
+  pub not-negative : difference < 2 ^ 31
+  pub comes : (value + difference) % 2 ^ 32 ≡ word % 2 ^ 32
+
+-- P15, P30: a word lets an acquire of a value pass, by the mode
+abbrev pub Passes : AcquireMode → ℕ → ℕ → Type 0
+Passes mode.Old word value = word ≡ value
+Passes mode.Equal word value = word ≡ value
+Passes mode.GreaterOrEqual word value = NotBehind word value
+
+-- P28: the trigger's parameter n asks for an acquire, in this mode
+abbrev pub AsksFor : ℕ → AcquireMode → Type 0
+AsksFor n a = ((n ≡ 1) × (a ≡ mode.Equal)) ⊎ ((n ≡ 4) × (a ≡ mode.GreaterOrEqual))
+
+-- P29: `after` is the memory `before` with these four words from a place on, and all others as they were
+pub record FourWritten (before : List ℕ) (place first second third fourth : ℕ) (after : List ℕ) : Type 0 where
+  pub as-long : length after ≡ length before
+  pub first-is : getD after place 0 ≡ first
+  pub second-is : getD after (place + 1) 0 ≡ second
+  pub third-is : getD after (place + 2) 0 ≡ third
+  pub fourth-is : getD after (place + 3) 0 ≡ fourth
+  pub others : (i : ℕ) → ((i < place) ⊎ (place + 3 < i)) → getD after i 0 ≡ getD before i 0
+
 -- P24: a method below 0x100 that no rule names
 pub record Unnamed (m : ℕ) : Type 0 where
   pub special : m < 0x100
@@ -125,25 +163,31 @@ engineAt p subchannel = getD (p .engines) subchannel 0
 pub record Setters : Type 0 where
   pub engine :
       (p : Puller) (s e : ℕ)
-      → withEngine p s e ≡ record { engines = set (p .engines) s e; last = p .last; reference = p .reference; semaphore = p .semaphore; acquire = p .acquire; error = p .error }
+      → withEngine p s e ≡ record { engines = set (p .engines) s e; last = p .last; reference = p .reference; semaphore = p .semaphore; acquire = p .acquire; error = p .error; long = p .long }
   pub last :
       (p : Puller) (e : ℕ)
-      → withLast p e ≡ record { engines = p .engines; last = e; reference = p .reference; semaphore = p .semaphore; acquire = p .acquire; error = p .error }
+      → withLast p e ≡ record { engines = p .engines; last = e; reference = p .reference; semaphore = p .semaphore; acquire = p .acquire; error = p .error; long = p .long }
   pub reference :
       (p : Puller) (x : ℕ)
-      → withReference p x ≡ record { engines = p .engines; last = p .last; reference = x; semaphore = p .semaphore; acquire = p .acquire; error = p .error }
+      → withReference p x ≡ record { engines = p .engines; last = p .last; reference = x; semaphore = p .semaphore; acquire = p .acquire; error = p .error; long = p .long }
   pub dma :
       (p : Puller) (a : ℕ)
-      → withDma p a ≡ record { engines = p .engines; last = p .last; reference = p .reference; semaphore = record { dma = a; offset = p .semaphore .offset; valid = p .semaphore .valid }; acquire = p .acquire; error = p .error }
+      → withDma p a ≡ record { engines = p .engines; last = p .last; reference = p .reference; semaphore = record { dma = a; offset = p .semaphore .offset; valid = p .semaphore .valid }; acquire = p .acquire; error = p .error; long = p .long }
   pub offset :
       (p : Puller) (x : ℕ) (valid : Bool)
-      → withOffset p x valid ≡ record { engines = p .engines; last = p .last; reference = p .reference; semaphore = record { dma = p .semaphore .dma; offset = x; valid = valid }; acquire = p .acquire; error = p .error }
+      → withOffset p x valid ≡ record { engines = p .engines; last = p .last; reference = p .reference; semaphore = record { dma = p .semaphore .dma; offset = x; valid = valid }; acquire = p .acquire; error = p .error; long = p .long }
   pub acquire :
-      (p : Puller) (active : Bool) (value : ℕ)
-      → withAcquire p active value ≡ record { engines = p .engines; last = p .last; reference = p .reference; semaphore = p .semaphore; acquire = record { active = active; value = value }; error = p .error }
+      (p : Puller) (active : Bool) (value : ℕ) (a : AcquireMode)
+      → withAcquire p active value a ≡ record { engines = p .engines; last = p .last; reference = p .reference; semaphore = p .semaphore; acquire = record { active = active; value = value; mode = a }; error = p .error; long = p .long }
   pub no-acquire :
       (p : Puller)
-      → withoutAcquire p ≡ record { engines = p .engines; last = p .last; reference = p .reference; semaphore = p .semaphore; acquire = record { active = false; value = p .acquire .value }; error = p .error }
+      → withoutAcquire p ≡ record { engines = p .engines; last = p .last; reference = p .reference; semaphore = p .semaphore; acquire = record { active = false; value = p .acquire .value; mode = p .acquire .mode }; error = p .error; long = p .long }
+  pub address :
+      (p : Puller) (a : ℕ)
+      → withAddress p a ≡ record { engines = p .engines; last = p .last; reference = p .reference; semaphore = p .semaphore; acquire = p .acquire; error = p .error; long = record { address = a; sequence = p .long .sequence } }
+  pub sequence :
+      (p : Puller) (x : ℕ)
+      → withSequence p x ≡ record { engines = p .engines; last = p .last; reference = p .reference; semaphore = p .semaphore; acquire = p .acquire; error = p .error; long = record { address = p .long .address; sequence = x } }
 
 -- P22: what the event says of a method m that is taken, with x handed on
 abbrev pub telling : Kind → Method → ℕ → List ℕ
@@ -162,6 +206,7 @@ pub record Failed (p : Puller) (e : PullerError) (q : Puller) : Type 0 where
   pub semaphore : q .semaphore ≡ p .semaphore
   pub acquire : q .acquire ≡ p .acquire
   pub error : q .error ≡ e
+  pub long : q .long ≡ p .long
 
 -- P20: r leaves p so stopped and says so, without further fields
 pub record Fails (p : Puller) (e : PullerError) (r : Taken) : Type 0 where
@@ -171,6 +216,110 @@ pub record Fails (p : Puller) (e : PullerError) (r : Taken) : Type 0 where
 -- P21, P5: q is p that the method m has stopped: all but the error stays, and the binding where engine 0 was bound
 abbrev pub StoppedBy : Puller → Method → Puller → Type 0
 StoppedBy p m q = Failed p (q .error) q ⊎ Failed (withEngine p (m .subchannel) 0) cause.EmptySubchannel q
+
+-- P25 to P30: the rules of long semaphores as sentences, as those below.
+pub record LongSentences (R : Level → Puller → Method → PullerLoan → Taken → List ℕ → Type 0) : Type 0 where
+  -- P25: the address would have more than 40 bits
+  pub high-too-large :
+      (level : Level) (p : Puller) (m : Method) (l : PullerLoan) (exit : List ℕ) (r : Taken)
+      → R level p m l r exit
+      → 5 ≤ level .number
+      → m .method ≡ 0x10
+      → 255 < m .parameter
+      → Fails p cause.Semaphore3 r × (exit ≡ l .semaphores)
+  -- P25: its bits 39-32 are set, and bits 31-0 stay
+  pub high :
+      (level : Level) (p : Puller) (m : Method) (l : PullerLoan) (exit : List ℕ) (address : ℕ) (r : Taken)
+      → R level p m l r exit
+      → 5 ≤ level .number
+      → m .method ≡ 0x10
+      → m .parameter ≤ 255
+      → address / 2 ^ 32 ≡ m .parameter
+      → address % 2 ^ 32 ≡ p .long .address % 2 ^ 32
+      → Leaves (withAddress p address) (telling kind.Event m (m .parameter)) r × (exit ≡ l .semaphores)
+  -- P26: it would be no multiple of 4
+  pub low-unaligned :
+      (level : Level) (p : Puller) (m : Method) (l : PullerLoan) (exit : List ℕ) (r : Taken)
+      → R level p m l r exit
+      → 5 ≤ level .number
+      → m .method ≡ 0x14
+      → (m .parameter % 4 ≡ 0 → ⊥)
+      → Fails p cause.Semaphore1 r × (exit ≡ l .semaphores)
+  -- P26: its bits 31-0 are set, and bits 39-32 stay
+  pub low :
+      (level : Level) (p : Puller) (m : Method) (l : PullerLoan) (exit : List ℕ) (address : ℕ) (r : Taken)
+      → R level p m l r exit
+      → 5 ≤ level .number
+      → m .method ≡ 0x14
+      → m .parameter % 4 ≡ 0
+      → address % 2 ^ 32 ≡ m .parameter % 2 ^ 32
+      → address / 2 ^ 32 ≡ p .long .address / 2 ^ 32 % 2 ^ 8
+      → Leaves (withAddress p address) (telling kind.Event m (m .parameter)) r × (exit ≡ l .semaphores)
+  -- P27: the sequence is set
+  pub sequence :
+      (level : Level) (p : Puller) (m : Method) (l : PullerLoan) (exit : List ℕ) (r : Taken)
+      → R level p m l r exit
+      → 5 ≤ level .number
+      → m .method ≡ 0x18
+      → Leaves (withSequence p (m .parameter)) (telling kind.Event m (m .parameter)) r × (exit ≡ l .semaphores)
+  -- P28: no operation has this number
+  pub no-operation :
+      (level : Level) (p : Puller) (m : Method) (l : PullerLoan) (exit : List ℕ) (r : Taken)
+      → R level p m l r exit
+      → 5 ≤ level .number
+      → m .method ≡ 0x1c
+      → (m .parameter ≡ 1 → ⊥)
+      → (m .parameter ≡ 2 → ⊥)
+      → (m .parameter ≡ 4 → ⊥)
+      → Fails p cause.Semaphore2 r × (exit ≡ l .semaphores)
+  -- P29: a release for which the memory has not all four words
+  pub release-past-end :
+      (level : Level) (p : Puller) (m : Method) (l : PullerLoan) (exit : List ℕ) (r : Taken)
+      → R level p m l r exit
+      → 5 ≤ level .number
+      → m .method ≡ 0x1c
+      → m .parameter ≡ 2
+      → length (l .semaphores) ≤ p .long .address / 4 + 3
+      → Fails p cause.Semaphore4 r × (exit ≡ l .semaphores)
+  -- P29: and one that writes them: the sequence, 0, and the clock's two halves, the lower first
+  pub release :
+      (level : Level) (p : Puller) (m : Method) (l : PullerLoan) (exit : List ℕ) (r : Taken)
+      → R level p m l r exit
+      → 5 ≤ level .number
+      → m .method ≡ 0x1c
+      → m .parameter ≡ 2
+      → p .long .address / 4 + 3 < length (l .semaphores)
+      → Leaves p (telling kind.Release m (m .parameter)) r
+      × FourWritten (l .semaphores) (p .long .address / 4) (p .long .sequence) 0 (l .clock % 2 ^ 32) (l .clock / 2 ^ 32 % 2 ^ 32) exit
+  -- P30: an acquire whose word is past the end of the memory
+  pub acquire-past-end :
+      (level : Level) (p : Puller) (m : Method) (l : PullerLoan) (exit : List ℕ) (a : AcquireMode) (r : Taken)
+      → R level p m l r exit
+      → 5 ≤ level .number
+      → m .method ≡ 0x1c
+      → AsksFor (m .parameter) a
+      → length (l .semaphores) ≤ p .long .address / 4
+      → Fails p cause.Semaphore4 r × (exit ≡ l .semaphores)
+  -- P30: one that its word lets pass
+  pub acquire :
+      (level : Level) (p : Puller) (m : Method) (l : PullerLoan) (exit : List ℕ) (a : AcquireMode) (r : Taken)
+      → R level p m l r exit
+      → 5 ≤ level .number
+      → m .method ≡ 0x1c
+      → AsksFor (m .parameter) a
+      → LongInside p (l .semaphores)
+      → Passes a (longWordIn p (l .semaphores)) (p .long .sequence)
+      → Leaves p (telling kind.Acquire m (m .parameter)) r × (exit ≡ l .semaphores)
+  -- P30: and one that waits
+  pub wait :
+      (level : Level) (p : Puller) (m : Method) (l : PullerLoan) (exit : List ℕ) (a : AcquireMode) (r : Taken)
+      → R level p m l r exit
+      → 5 ≤ level .number
+      → m .method ≡ 0x1c
+      → AsksFor (m .parameter) a
+      → LongInside p (l .semaphores)
+      → (Passes a (longWordIn p (l .semaphores)) (p .long .sequence) → ⊥)
+      → Leaves (withAcquire p true (p .long .sequence) a) (telling kind.Wait m (m .parameter)) r × (exit ≡ l .semaphores)
 
 -- The rules as sentences, of any relation R between what a puller is given with a method and what it leaves: what changes, and
 -- nothing else does (P3). Where there is an error, no semaphore word changes (P21).
@@ -208,7 +357,7 @@ pub record Sentences (R : Level → Puller → Method → PullerLoan → Taken �
   pub event :
       (level : Level) (p : Puller) (m : Method) (l : PullerLoan) (exit : List ℕ) (r : Taken)
       → R level p m l r exit
-      → ((m .method ≡ 0x80) ⊎ ((0x10 ≤ m .method) × (m .method ≤ 0x24)))
+      → ((m .method ≡ 0x80) ⊎ ((0x10 ≤ m .method) × (m .method ≤ 0x24) × (IsLong level m → ⊥)))
       → Leaves p (telling kind.Event m (m .parameter)) r × (exit ≡ l .semaphores)
   -- P24: the methods below 0x100 that no level has, and no pusher submits
   pub unnamed :
@@ -307,7 +456,7 @@ pub record Sentences (R : Level → Puller → Method → PullerLoan → Taken �
       → Ready level p
       → Inside p (l .semaphores)
       → (wordIn p (l .semaphores) ≡ m .parameter → ⊥)
-      → Leaves (withAcquire p true (m .parameter)) (telling kind.Wait m (m .parameter)) r × (exit ≡ l .semaphores)
+      → Leaves (withAcquire p true (m .parameter) mode.Old) (telling kind.Wait m (m .parameter)) r × (exit ≡ l .semaphores)
   -- P17: a release writes it
   pub release :
       (level : Level) (p : Puller) (m : Method) (l : PullerLoan) (exit : List ℕ) (r : Taken)
@@ -350,26 +499,57 @@ pub record Sentences (R : Level → Puller → Method → PullerLoan → Taken �
       → Names (l .table) (m .parameter) o
       → (engineAt p (m .subchannel) ≡ 0 → ⊥)
       → Leaves (withLast p (engineAt p (m .subchannel))) (telling kind.Forward m (o .address)) r × (exit ≡ l .semaphores)
+  -- P25 to P30: and those of long semaphores
+  pub long : LongSentences R
 
 -- Promise 2, for the puller: `take` does what the sentences say.
 abbrev pub Pulls : Type 0
 Pulls = Sentences Takes
 
--- P16: the rule of a retry as sentences, of any relation R between what a puller is given, with the semaphore memory, and what it
--- leaves. Its event has no fields.
+-- P16, P31: the rules of a retry as sentences, of any relation R between what a puller is given, with the semaphore memory, and what
+-- it leaves. Its event has no fields.
 pub record RetrySentences (R : Level → Puller → List ℕ → Taken → Type 0) : Type 0 where
-  pub past-end : (level : Level) (p : Puller) (sems : List ℕ) (e : PullerError) (r : Taken) → R level p sems r → PastEnd level p sems e → Fails p e r
+  -- P16: in the mode old
+  pub past-end :
+      (level : Level) (p : Puller) (sems : List ℕ) (e : PullerError) (r : Taken)
+      → R level p sems r
+      → p .acquire .mode ≡ mode.Old
+      → PastEnd level p sems e
+      → Fails p e r
   pub equal :
       (level : Level) (p : Puller) (sems : List ℕ) (r : Taken)
       → R level p sems r
+      → p .acquire .mode ≡ mode.Old
       → Inside p sems
       → wordIn p sems ≡ p .acquire .value
       → Leaves (withoutAcquire p) (kindNumber kind.Acquire ∷ []) r
   pub unequal :
       (level : Level) (p : Puller) (sems : List ℕ) (r : Taken)
       → R level p sems r
+      → p .acquire .mode ≡ mode.Old
       → Inside p sems
       → (wordIn p sems ≡ p .acquire .value → ⊥)
+      → Leaves p (kindNumber kind.Wait ∷ []) r
+  -- P31: in another
+  pub long-past-end :
+      (level : Level) (p : Puller) (sems : List ℕ) (r : Taken)
+      → R level p sems r
+      → (p .acquire .mode ≡ mode.Old → ⊥)
+      → length sems ≤ p .long .address / 4
+      → Fails p cause.Semaphore4 r
+  pub long-passes :
+      (level : Level) (p : Puller) (sems : List ℕ) (r : Taken)
+      → R level p sems r
+      → (p .acquire .mode ≡ mode.Old → ⊥)
+      → LongInside p sems
+      → Passes (p .acquire .mode) (longWordIn p sems) (p .acquire .value)
+      → Leaves (withoutAcquire p) (kindNumber kind.Acquire ∷ []) r
+  pub long-waits :
+      (level : Level) (p : Puller) (sems : List ℕ) (r : Taken)
+      → R level p sems r
+      → (p .acquire .mode ≡ mode.Old → ⊥)
+      → LongInside p sems
+      → (Passes (p .acquire .mode) (longWordIn p sems) (p .acquire .value) → ⊥)
       → Leaves p (kindNumber kind.Wait ∷ []) r
 
 -- `retry` does what they say.
@@ -390,6 +570,107 @@ pub record NoOther : Type 1 where
       → (level : Level) (p : Puller) (sems : List ℕ) (r : Taken)
       → R level p sems r
       → Retries level p sems r
+
+-- P30: 'greater or equal' in numbers: a semaphore's word, the sequence, and what a trigger of 4 then says.
+pub record Compared : Type 0 where
+  pub word : ℕ
+  pub sequence : ℕ
+  pub says : Kind
+
+abbrev against : ℕ → ℕ → Kind → Compared
+against word sequence says = record { word = word; sequence = sequence; says = says }
+
+-- P30: the differences 0, 1, 0x7fffffff, 0x80000000 and 0xffffffff, with sequences on both sides of the wrap
+abbrev pub comparisons : List Compared
+comparisons =
+    against 0x00000000 0x00000000 kind.Acquire
+    ∷ against 0x00000001 0x00000000 kind.Acquire
+    ∷ against 0x7fffffff 0x00000000 kind.Acquire
+    ∷ against 0x80000000 0x00000000 kind.Wait
+    ∷ against 0xffffffff 0x00000000 kind.Wait
+    ∷ against 0x7fffffff 0x7fffffff kind.Acquire
+    ∷ against 0x80000000 0x7fffffff kind.Acquire
+    ∷ against 0xfffffffe 0x7fffffff kind.Acquire
+    ∷ against 0xffffffff 0x7fffffff kind.Wait
+    ∷ against 0x7ffffffe 0x7fffffff kind.Wait
+    ∷ against 0x80000000 0x80000000 kind.Acquire
+    ∷ against 0x80000001 0x80000000 kind.Acquire
+    ∷ against 0xffffffff 0x80000000 kind.Acquire
+    ∷ against 0x00000000 0x80000000 kind.Wait
+    ∷ against 0x7fffffff 0x80000000 kind.Wait
+    ∷ against 0xffffffff 0xffffffff kind.Acquire
+    ∷ against 0x00000000 0xffffffff kind.Acquire
+    ∷ against 0x7ffffffe 0xffffffff kind.Acquire
+    ∷ against 0x7fffffff 0xffffffff kind.Wait
+    ∷ against 0xfffffffe 0xffffffff kind.Wait
+    ∷ []
+
+-- P30: `take` says so of a row, whatever else the puller holds
+abbrev pub SaysSo : Compared → Type 0
+SaysSo x =
+    (level : Level) (p : Puller) (m : Method) (l : PullerLoan) (exit : List ℕ) (r : Taken)
+    → Takes level p m l r exit
+    → 5 ≤ level .number
+    → m .method ≡ 0x1c
+    → m .parameter ≡ 4
+    → LongInside p (l .semaphores)
+    → longWordIn p (l .semaphores) ≡ x .word
+    → p .long .sequence ≡ x .sequence
+    → values (r .event) ≡ telling (x .says) m 4
+
+abbrev pub Each : (Compared → Type 0) → List Compared → Type 0
+Each P [] = Unit {0}
+Each P (x ∷ xs) = P x × Each P xs
+
+-- P30: and so of every row
+abbrev pub Signed : Type 0
+Signed = Each SaysSo comparisons
+
+-- P32: two pullers that differ in their long semaphores alone
+pub record ButLong (p q : Puller) : Type 0 where
+  pub engines : p .engines ≡ q .engines
+  pub last : p .last ≡ q .last
+  pub reference : p .reference ≡ q .reference
+  pub semaphore : p .semaphore ≡ q .semaphore
+  pub acquire : p .acquire ≡ q .acquire
+  pub error : p .error ≡ q .error
+
+-- P32: two loans that differ in their clocks alone
+pub record ButClock (l k : PullerLoan) : Type 0 where
+  pub table : l .table ≡ k .table
+  pub semaphores : l .semaphores ≡ k .semaphores
+
+-- P32: the answer a to p is the answer b to another, but for the long semaphore, which stays
+pub record SameButLong (p : Puller) (a b : Taken) : Type 0 where
+  pub event : values (a .event) ≡ values (b .event)
+  pub rest : ButLong (a .puller) (b .puller)
+  pub stays : a .puller .long ≡ p .long
+
+-- P32: what neither the clock nor the long semaphore has a part in
+pub record Apart : Type 0 where
+  -- the clock in nothing but the words of a long release
+  pub clock :
+      (level : Level) (p : Puller) (m : Method) (l k : PullerLoan) (x y : List ℕ) (a b : Taken)
+      → ButClock l k
+      → Takes level p m l a x
+      → Takes level p m k b y
+      → (a ≡ b) × (((m .method ≡ 0x1c) × (m .parameter ≡ 2) → ⊥) → x ≡ y)
+  -- below level 5 neither in anything; of a retry, in the mode old
+  pub take :
+      (level : Level) (p q : Puller) (m : Method) (l k : PullerLoan) (x y : List ℕ) (a b : Taken)
+      → level .number < 5
+      → ButLong p q
+      → ButClock l k
+      → Takes level p m l a x
+      → Takes level q m k b y
+      → SameButLong p a b × (x ≡ y)
+  pub retry :
+      (level : Level) (p q : Puller) (sems : List ℕ) (a b : Taken)
+      → p .acquire .mode ≡ mode.Old
+      → ButLong p q
+      → Retries level p sems a
+      → Retries level q sems b
+      → SameButLong p a b
 
 -- P23: the errors in order, after none.
 abbrev pub errorList : List (Option PullerError)
@@ -424,7 +705,7 @@ pub record Failing : Type 0 where
 
 -- What `take` is lent, by its own arguments, is what its contract speaks of, whole.
 abbrev pub Lends : Type 0
-Lends = (t sems : List ℕ) → toPuller t sems ≡ record { table = t; semaphores = sems }
+Lends = (t sems : List ℕ) (clock : ℕ) → toPuller t sems clock ≡ record { table = t; semaphores = sems; clock = clock }
 
 -- Each contract leaves one outcome.
 pub record One : Type 0 where

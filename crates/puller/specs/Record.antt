@@ -6,6 +6,8 @@ use lib.ListN.{getD, set}
 use Rattle.puller.specs.declared.record.PullerError.{PullerError}
 use Rattle.puller.specs.declared.record.PullerError.the-variants as cause
 use Rattle.puller.specs.declared.record.Semaphore.{Semaphore}
+use Rattle.puller.specs.declared.record.LongSemaphore.{LongSemaphore}
+use Rattle.puller.specs.declared.record.AcquireMode.{AcquireMode}
 use Rattle.puller.specs.declared.record.Puller.{Puller}
 
 -- P23: the errors' numbers; 0 is none
@@ -24,24 +26,24 @@ halts e = not (eqb (number e) 0)
 
 -- P20: the error is stored, and nothing else with it
 abbrev pub withError : Puller → PullerError → Puller
-withError p e = record { engines = p .engines; last = p .last; reference = p .reference; semaphore = p .semaphore; acquire = p .acquire; error = e }
+withError p e = record { engines = p .engines; last = p .last; reference = p .reference; semaphore = p .semaphore; acquire = p .acquire; error = e; long = p .long }
 
 -- P24: the engine of a subchannel; there are eight, and a number above them reads 0 and stores nothing
 abbrev pub engineOf : Puller → ℕ → ℕ
 engineOf p s = getD (p .engines) s 0
 
 abbrev pub withEngine : Puller → ℕ → ℕ → Puller
-withEngine p s e = record { engines = set (p .engines) s e; last = p .last; reference = p .reference; semaphore = p .semaphore; acquire = p .acquire; error = p .error }
+withEngine p s e = record { engines = set (p .engines) s e; last = p .last; reference = p .reference; semaphore = p .semaphore; acquire = p .acquire; error = p .error; long = p .long }
 
 -- the record with another number and all else as it was
 abbrev pub withLast : Puller → ℕ → Puller
-withLast p e = record { engines = p .engines; last = e; reference = p .reference; semaphore = p .semaphore; acquire = p .acquire; error = p .error }
+withLast p e = record { engines = p .engines; last = e; reference = p .reference; semaphore = p .semaphore; acquire = p .acquire; error = p .error; long = p .long }
 
 abbrev pub withReference : Puller → ℕ → Puller
-withReference p x = record { engines = p .engines; last = p .last; reference = x; semaphore = p .semaphore; acquire = p .acquire; error = p .error }
+withReference p x = record { engines = p .engines; last = p .last; reference = x; semaphore = p .semaphore; acquire = p .acquire; error = p .error; long = p .long }
 
 abbrev pub withSemaphore : Puller → Semaphore → Puller
-withSemaphore p s = record { engines = p .engines; last = p .last; reference = p .reference; semaphore = s; acquire = p .acquire; error = p .error }
+withSemaphore p s = record { engines = p .engines; last = p .last; reference = p .reference; semaphore = s; acquire = p .acquire; error = p .error; long = p .long }
 
 -- its semaphore with another object, and with another offset
 abbrev pub withDma : Puller → ℕ → Puller
@@ -50,9 +52,19 @@ withDma p a = withSemaphore p (record { dma = a; offset = p .semaphore .offset; 
 abbrev pub withOffset : Puller → ℕ → Bool → Puller
 withOffset p x valid = withSemaphore p (record { dma = p .semaphore .dma; offset = x; valid = valid })
 
--- its acquire active or not, with a value; and active no longer, the value left
-abbrev pub withAcquire : Puller → Bool → ℕ → Puller
-withAcquire p a v = record { engines = p .engines; last = p .last; reference = p .reference; semaphore = p .semaphore; acquire = record { active = a; value = v }; error = p .error }
+-- its acquire active or not, with a value and a mode; and active no longer, value and mode left
+abbrev pub withAcquire : Puller → Bool → ℕ → AcquireMode → Puller
+withAcquire p a v mode = record { engines = p .engines; last = p .last; reference = p .reference; semaphore = p .semaphore; acquire = record { active = a; value = v; mode = mode }; error = p .error; long = p .long }
 
 abbrev pub withoutAcquire : Puller → Puller
-withoutAcquire p = withAcquire p false (p .acquire .value)
+withoutAcquire p = withAcquire p false (p .acquire .value) (p .acquire .mode)
+
+-- with another long semaphore; its address, and its sequence
+abbrev pub withLong : Puller → LongSemaphore → Puller
+withLong p s = record { engines = p .engines; last = p .last; reference = p .reference; semaphore = p .semaphore; acquire = p .acquire; error = p .error; long = s }
+
+abbrev pub withAddress : Puller → ℕ → Puller
+withAddress p a = withLong p (record { address = a; sequence = p .long .sequence })
+
+abbrev pub withSequence : Puller → ℕ → Puller
+withSequence p x = withLong p (record { address = p .long .address; sequence = x })

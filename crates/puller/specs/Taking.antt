@@ -1,9 +1,10 @@
 -- What the puller does with a method, and with an acquire that waits (docs/CARD.md, P).
-use Prim.Native.Nat.{ℕ, _/_}
+use Prim.Native.Nat.{ℕ, _+_, _*_, _-_, _/_, _%_, _^_}
 use mathlib.Core.Bool.{Bool, true, false, not, _&&_, _||_}
 use mathlib.Core.List.{List, [], _∷_}
 use lib.Dec.{eqb, leb, ltb}
 use lib.ListN.{length, getD, set}
+use lib.Seq.{sets}
 use Rattle.word.specs.First.{choose}
 use Rattle.word.specs.Parts.{bits}
 use Rattle.event.specs.declared.Kind.{Kind}
@@ -12,12 +13,14 @@ use Rattle.event.specs.declared.Method.{Method}
 use Rattle.event.specs.declared.Event.the-variants.{Plain, Of}
 use Rattle.puller.specs.Object.{lookupOf}
 use Rattle.puller.specs.Loan.{PullerLoan}
-use Rattle.puller.specs.Record.{withError, engineOf, withEngine, withLast, withReference, withDma, withOffset, withAcquire, withoutAcquire}
+use Rattle.puller.specs.Record.{withError, engineOf, withEngine, withLast, withReference, withDma, withOffset, withAcquire, withoutAcquire, withAddress, withSequence}
 use Rattle.puller.specs.declared.object.Object.{Object}
 use Rattle.puller.specs.declared.object.Found.{Found}
 use Rattle.puller.specs.declared.object.Found.the-variants as found
 use Rattle.puller.specs.declared.record.PullerError.{PullerError}
 use Rattle.puller.specs.declared.record.PullerError.the-variants as cause
+use Rattle.puller.specs.declared.record.AcquireMode.{AcquireMode}
+use Rattle.puller.specs.declared.record.AcquireMode.the-variants as mode
 use Rattle.puller.specs.declared.record.Puller.{Puller}
 use Rattle.puller.specs.declared.taking.Taken.{Taken}
 use Rattle.puller.specs.declared.taking.Trial.{Trial}
@@ -25,38 +28,43 @@ use Rattle.puller.specs.declared.taking.Trial.the-variants as trial
 
 -- What a method is to the puller.
 pub data Deed : Type 0 where
-  binds refers logs bindsSemaphore offsets acquires releases forwards looksAndForwards : Deed
+  binds refers logs bindsSemaphore offsets acquires releases forwards looksAndForwards addressesHigh addressesLow sequences triggers : Deed
 
--- methods `from` to `to`
+-- methods `from` to `to`, from a level on
 pub record Row : Type 0 where
   pub from : ℕ
   pub to : ℕ
+  pub level : ℕ
   pub deed : Deed
 
-abbrev row : ℕ → ℕ → Deed → Row
-row from to deed = record { from = from; to = to; deed = deed }
+abbrev row : ℕ → ℕ → ℕ → Deed → Row
+row from to level deed = record { from = from; to = to; level = level; deed = deed }
 
--- P3: the methods by their byte numbers
+-- P3: the methods by their byte numbers; P8, P25 to P28: long semaphores from level 5 on
 unfoldable pub rows : List Row
 rows =
-    row 0x00 0x00 binds
-    ∷ row 0x50 0x50 refers
-    ∷ row 0x80 0x80 logs
-    ∷ row 0x10 0x24 logs
-    ∷ row 0x60 0x60 bindsSemaphore
-    ∷ row 0x64 0x64 offsets
-    ∷ row 0x68 0x68 acquires
-    ∷ row 0x6c 0x6c releases
-    ∷ row 0x180 0x1fc looksAndForwards
+    row 0x00 0x00 0 binds
+    ∷ row 0x50 0x50 0 refers
+    ∷ row 0x80 0x80 0 logs
+    ∷ row 0x10 0x10 5 addressesHigh
+    ∷ row 0x14 0x14 5 addressesLow
+    ∷ row 0x18 0x18 5 sequences
+    ∷ row 0x1c 0x1c 5 triggers
+    ∷ row 0x10 0x24 0 logs
+    ∷ row 0x60 0x60 0 bindsSemaphore
+    ∷ row 0x64 0x64 0 offsets
+    ∷ row 0x68 0x68 0 acquires
+    ∷ row 0x6c 0x6c 0 releases
+    ∷ row 0x180 0x1fc 0 looksAndForwards
     ∷ []
 
 -- P18, P24: from 0x100 up the others are forwarded; below, a method that no pusher submits has no effect
-unfoldable pub deedIn : List Row → ℕ → Deed
-deedIn [] m = choose (leb 0x100 m) forwards logs
-deedIn (r ∷ rs) m = choose (leb (r .from) m && leb m (r .to)) (r .deed) (deedIn rs m)
+unfoldable pub deedIn : List Row → ℕ → ℕ → Deed
+deedIn [] level m = choose (leb 0x100 m) forwards logs
+deedIn (r ∷ rs) level m = choose ((leb (r .from) m && leb m (r .to)) && leb (r .level) level) (r .deed) (deedIn rs level m)
 
-unfoldable pub deedOf : ℕ → Deed
-deedOf m = deedIn rows m
+unfoldable pub deedOf : ℕ → ℕ → Deed
+deedOf level m = deedIn rows level m
 
 -- P22: the event of a method taken, with the parameter that is handed on
 abbrev pub doneWith : Puller → Kind → Method → ℕ → Taken
@@ -123,37 +131,63 @@ unreadyAt level p = choose (ltb level 4) (eqb (p .semaphore .dma) 0) (not (p .se
 abbrev pub placeOf : Puller → ℕ
 placeOf p = p .semaphore .offset / 4
 
--- P14: whether the memory ends before it, and the error that this is
+-- P29: the place of the long semaphore's first word
+abbrev pub longPlace : Puller → ℕ
+longPlace p = p .long .address / 4
+
+-- P14, P30: where an acquire's word is, by the mode;
+unfoldable pub placeIn : Puller → AcquireMode → ℕ
+placeIn p mode.Old = placeOf p
+placeIn p mode.Equal = longPlace p
+placeIn p mode.GreaterOrEqual = longPlace p
+
+-- P14, P29: whether the memory ends before a place
 abbrev pub isPast : ℕ → List ℕ → Bool
 isPast place sems = leb (length sems) place
 
-unfoldable pub pastEnd : ℕ → PullerError
-pastEnd level = choose (ltb level 4) cause.Semaphore2 cause.Semaphore4
+-- P14, P30: and the error that this is
+unfoldable pub pastEnd : ℕ → AcquireMode → PullerError
+pastEnd level mode.Old = choose (ltb level 4) cause.Semaphore2 cause.Semaphore4
+pastEnd level mode.Equal = cause.Semaphore4
+pastEnd level mode.GreaterOrEqual = cause.Semaphore4
 
--- P14, P15, P16: what an acquire of a value comes to at a place of the memory: there is no such word, it goes on, or it waits.
-unfoldable pub trialOf : ℕ → ℕ → List ℕ → Trial
-trialOf place value sems =
+-- P30: a word minus a value, modulo 2^32
+abbrev pub ahead : ℕ → ℕ → ℕ
+ahead word value = (word + (2 ^ 32 - value % 2 ^ 32)) % 2 ^ 32
+
+-- P15, P30: whether a word lets an acquire of a value pass, by the mode
+unfoldable pub passesIn : AcquireMode → ℕ → ℕ → Bool
+passesIn mode.Old word value = eqb word value
+passesIn mode.Equal word value = eqb word value
+passesIn mode.GreaterOrEqual word value = ltb (ahead word value) (2 ^ 31)
+
+-- P14 to P16, P30, P31: what an acquire of a value comes to at a place of the memory: there is no such word, it goes on, or it waits.
+unfoldable pub trialOf : AcquireMode → ℕ → ℕ → List ℕ → Trial
+trialOf a place value sems =
     choose (isPast place sems) trial.Outside
-    (choose (eqb (getD sems place 0) value) trial.Passes trial.Waits)
+    (choose (passesIn a (getD sems place 0) value) trial.Passes trial.Waits)
 
 -- it goes by that the first time and at each retry: past the end it fails, else there are two ways to go
-unfoldable pub tried : ℕ → Puller → Trial → Taken → Taken → Taken
-tried level p trial.Outside passes waits = failedBy p (pastEnd level)
-tried level p trial.Passes passes waits = passes
-tried level p trial.Waits passes waits = waits
+unfoldable pub tried : Puller → PullerError → Trial → Taken → Taken → Taken
+tried p e trial.Outside passes waits = failedBy p e
+tried p e trial.Passes passes waits = passes
+tried p e trial.Waits passes waits = waits
 
--- P13, P15: an acquire that passes changes nothing; one that waits is active, with its value
-unfoldable pub acquireOf : ℕ → Puller → Method → List ℕ → Taken
-acquireOf level p m sems =
-    choose (unreadyAt level p) (failedBy p cause.Semaphore2)
-    (tried level p (trialOf (placeOf p) (m .parameter) sems)
+-- P15, P30: an acquire that passes changes nothing; one that waits is active, with its value and mode
+unfoldable pub acquireIn : ℕ → Puller → Method → AcquireMode → ℕ → List ℕ → Taken
+acquireIn level p m a value sems =
+    tried p (pastEnd level a) (trialOf a (placeIn p a) value sems)
     (doneWith p kind.Acquire m (m .parameter))
-    (doneWith (withAcquire p true (m .parameter)) kind.Wait m (m .parameter)))
+    (doneWith (withAcquire p true value a) kind.Wait m (m .parameter))
 
--- P16: a retry asks for neither object nor offset, and its event has no fields
+-- P13, P15: an old one, of the parameter
+unfoldable pub acquireOf : ℕ → Puller → Method → List ℕ → Taken
+acquireOf level p m sems = choose (unreadyAt level p) (failedBy p cause.Semaphore2) (acquireIn level p m mode.Old (m .parameter) sems)
+
+-- P16, P31: a retry goes by the mode and the value that were stored. It asks for neither object nor offset, and its event has no fields
 unfoldable pub retryOf : ℕ → Puller → List ℕ → Taken
 retryOf level p sems =
-    tried level p (trialOf (placeOf p) (p .acquire .value) sems)
+    tried p (pastEnd level (p .acquire .mode)) (trialOf (p .acquire .mode) (placeIn p (p .acquire .mode)) (p .acquire .value) sems)
     (saying (withoutAcquire p) kind.Acquire)
     (saying p kind.Wait)
 
@@ -180,10 +214,48 @@ unwritten sems t = record { taken = t; memory = sems }
 unfoldable pub releaseOf : ℕ → Puller → Method → List ℕ → Result
 releaseOf level p m sems =
     choose (unreadyAt level p) (unwritten sems (failedBy p cause.Semaphore2))
-    (choose (isPast (placeOf p) sems) (unwritten sems (failedBy p (pastEnd level)))
+    (choose (isPast (placeOf p) sems) (unwritten sems (failedBy p (pastEnd level mode.Old)))
     (record { taken = doneWith p kind.Release m (m .parameter); memory = set sems (placeOf p) (m .parameter) }))
 
--- P3, P7, P8: what each method does; all but the release leave the memory
+-- an address of a long semaphore, put together from bits 39-32 and bits 31-0
+abbrev pub addressOf : ℕ → ℕ → ℕ
+addressOf high low = high * 2 ^ 32 + low
+
+-- P25: SEMAPHORE 3, or bits 39-32 of it are set
+unfoldable pub highOf : Puller → Method → Taken
+highOf p m =
+    choose (ltb 255 (m .parameter)) (failedBy p cause.Semaphore3)
+    (doneWith (withAddress p (addressOf (m .parameter) (bits 31 0 (p .long .address)))) kind.Event m (m .parameter))
+
+-- P26: SEMAPHORE 1, or bits 31-0 are
+unfoldable pub lowOf : Puller → Method → Taken
+lowOf p m =
+    choose (not (eqb (bits 1 0 (m .parameter)) 0)) (failedBy p cause.Semaphore1)
+    (doneWith (withAddress p (addressOf (bits 39 32 (p .long .address)) (bits 31 0 (m .parameter)))) kind.Event m (m .parameter))
+
+-- P27: the sequence
+abbrev pub sequenceOf : Puller → Method → Taken
+sequenceOf p m = doneWith (withSequence p (m .parameter)) kind.Event m (m .parameter)
+
+-- P29: the words of a long semaphore
+abbrev pub longWords : ℕ → ℕ → List ℕ
+longWords sequence clock = sequence ∷ 0 ∷ bits 31 0 clock ∷ bits 63 32 clock ∷ []
+
+-- P29: all four are written, or none is
+unfoldable pub longReleaseOf : Puller → Method → ℕ → List ℕ → Result
+longReleaseOf p m clock sems =
+    choose (isPast (longPlace p + 3) sems) (unwritten sems (failedBy p cause.Semaphore4))
+    (record { taken = doneWith p kind.Release m (m .parameter); memory = sets sems (longPlace p) (longWords (p .long .sequence) clock) })
+
+-- P28: the operations by their numbers; any other is SEMAPHORE 2
+unfoldable pub triggerOf : ℕ → Puller → Method → ℕ → List ℕ → Result
+triggerOf level p m clock sems =
+    choose (eqb (m .parameter) 1) (unwritten sems (acquireIn level p m mode.Equal (p .long .sequence) sems))
+    (choose (eqb (m .parameter) 2) (longReleaseOf p m clock sems)
+    (choose (eqb (m .parameter) 4) (unwritten sems (acquireIn level p m mode.GreaterOrEqual (p .long .sequence) sems))
+    (unwritten sems (failedBy p cause.Semaphore2))))
+
+-- P3, P7, P8: what each method does; all but the releases leave the memory
 unfoldable pub act : ℕ → Puller → Method → PullerLoan → Deed → Result
 act level p m l binds = unwritten (l .semaphores) (bindOf p m (l .table))
 act level p m l refers = unwritten (l .semaphores) (refOf p m)
@@ -194,7 +266,11 @@ act level p m l acquires = unwritten (l .semaphores) (acquireOf level p m (l .se
 act level p m l releases = releaseOf level p m (l .semaphores)
 act level p m l forwards = unwritten (l .semaphores) (forwardOf p m (m .parameter))
 act level p m l looksAndForwards = unwritten (l .semaphores) (forwardObjectOf p m (l .table))
+act level p m l addressesHigh = unwritten (l .semaphores) (highOf p m)
+act level p m l addressesLow = unwritten (l .semaphores) (lowOf p m)
+act level p m l sequences = unwritten (l .semaphores) (sequenceOf p m)
+act level p m l triggers = triggerOf level p m (l .clock) (l .semaphores)
 
 -- one method taken
 unfoldable pub takeOf : ℕ → Puller → Method → PullerLoan → Result
-takeOf level p m l = act level p m l (deedOf (m .method))
+takeOf level p m l = act level p m l (deedOf level (m .method))

@@ -11,17 +11,19 @@ use Rattle.puller.specs.Contracts.{Takes, Retries}
 use Rattle.puller.specs.declared.record.Puller.{Puller}
 use Rattle.puller.specs.declared.taking.Taken.{Taken}
 
--- R32: the engines, the last one and the eight that are bound, and the numbers of 32 bits
-pub record PullerFields (engines-are : List ℕ) (last-is reference-is dma-is offset-is value-is : ℕ) : Type 0 where
+-- R32: the engines, the last one and the eight that are bound, the numbers of 32 bits, and the long semaphore's address
+pub record PullerFields (engines-are : List ℕ) (last-is reference-is dma-is offset-is value-is address-is sequence-is : ℕ) : Type 0 where
   pub engines : (subchannel : ℕ) → subchannel < 8 → getD engines-are subchannel 0 < 2 ^ 5
   pub last : last-is < 2 ^ 5
   pub reference : reference-is < 2 ^ 32
   pub dma : dma-is < 2 ^ 32
   pub offset : offset-is < 2 ^ 32
   pub value : value-is < 2 ^ 32
+  pub address : address-is < 2 ^ 40
+  pub sequence : sequence-is < 2 ^ 32
 
 abbrev pub PullerFits : Puller → Type 0
-PullerFits p = PullerFields (p .engines) (p .last) (p .reference) (p .semaphore .dma) (p .semaphore .offset) (p .acquire .value)
+PullerFits p = PullerFields (p .engines) (p .last) (p .reference) (p .semaphore .dma) (p .semaphore .offset) (p .acquire .value) (p .long .address) (p .long .sequence)
 
 -- S31: neither a method taken nor a retry leaves these widths
 pub record KeepsWidths : Type 0 where

@@ -9,6 +9,8 @@ pub use object::Repeat;
 pub use object::first_repeat;
 pub use object::lookup;
 pub use record::Acquire;
+pub use record::AcquireMode;
+pub use record::LongSemaphore;
 pub use record::Puller;
 pub use record::PullerError;
 pub use record::Semaphore;

@@ -1,6 +1,7 @@
 // The puller's record.
 ghost use mathlib.Core.Path.{_≡_};
-ghost use Rattle.puller.specs.Record.{withError};
+ghost use mathlib.Core.Bool.{true};
+ghost use Rattle.puller.specs.Record.{withError, withAcquire};
 ghost use Rattle.puller.specs.Contracts.{Numbers, Halts};
 
 // What stopped the puller: CACHE_ERROR NO_HASH or EMPTY_SUBCHANNEL, or SEMAPHORE 1 to 4.
@@ -50,10 +51,25 @@ pub struct Semaphore {
     pub valid: bool,
 }
 
+// A long semaphore: its address in bytes, and the sequence that it is released with or held against.
+pub struct LongSemaphore {
+    pub address: u64,
+    pub sequence: u32,
+}
+
+// Where an acquire's word is, and when it lets the acquire pass: at the offset, where it is equal; or
+// at the long semaphore's address, where it is equal, or not behind.
+pub enum AcquireMode {
+    Old,
+    Equal,
+    GreaterOrEqual,
+}
+
 // The acquire that waits, if one is active.
 pub struct Acquire {
     pub active: bool,
     pub value: u32,
+    pub mode: AcquireMode,
 }
 
 pub struct Puller {
@@ -63,6 +79,7 @@ pub struct Puller {
     pub semaphore: Semaphore,
     pub acquire: Acquire,
     pub error: PullerError,
+    pub long: LongSemaphore,
 }
 
 impl Puller {
@@ -80,6 +97,7 @@ impl Puller {
         let engines = self.engines;
         let semaphore = self.semaphore;
         let acquire = self.acquire;
+        let long = self.long;
         Puller {
             engines,
             last: self.last,
@@ -87,6 +105,30 @@ impl Puller {
             semaphore,
             acquire,
             error,
+            long,
+        }
+    }
+
+    // With an acquire that is active.
+    pub(crate) fn with_acquire(self, value: u32, mode: AcquireMode) -> Puller
+        ensures { λ r. ⌜ r ≡ withAcquire self true value mode ⌝ }
+    {
+        let engines = self.engines;
+        let semaphore = self.semaphore;
+        let error = self.error;
+        let long = self.long;
+        Puller {
+            engines,
+            last: self.last,
+            reference: self.reference,
+            semaphore,
+            acquire: Acquire {
+                active: true,
+                value,
+                mode,
+            },
+            error,
+            long,
         }
     }
 }

@@ -1,12 +1,17 @@
 // One method taken by the puller, and one retry of an active acquire.
 ghost use mathlib.Core.Path.{_≡_};
+ghost use Prim.Native.Nat.{_+_, _≤_, _<_};
+ghost use lib.ListN.{length};
+ghost use lib.Seq.{sets};
+ghost use Rattle.word.specs.Parts.{bits};
 ghost use Rattle.puller.specs.Loan.{toPuller};
-ghost use Rattle.puller.specs.Taking.{doneWith, failedBy, bindOf, refOf, dmaOf, unfitFor, offsetOf, unreadyAt, placeOf, pastEnd, trialOf, acquireOf, forwardObjectOf, forwardOf};
+ghost use Rattle.puller.specs.Taking.{doneWith, failedBy, bindOf, refOf, dmaOf, unfitFor, offsetOf, unreadyAt, longPlace, placeIn, pastEnd, passesIn, trialOf, acquireIn, acquireOf, forwardObjectOf, forwardOf, releaseOf, addressOf, highOf, lowOf, longWords, longReleaseOf, triggerOf};
 ghost use Rattle.puller.specs.Record.{withEngine, engineOf};
-ghost use Rattle.puller.specs.Contracts.{Takes, Retries, Releases};
+ghost use Rattle.puller.specs.Contracts.{Takes, TakesLong, Writes, Retries};
 use crate::object::Found;
 use crate::object::Object;
 use crate::object::lookup;
+use crate::record::AcquireMode;
 use crate::record::Puller;
 use crate::record::PullerError;
 use event::Event;
@@ -35,13 +40,14 @@ pub fn take(
     method: Method,
     table: &[u32],
     semaphores: &mut [u32],
+    clock: u64,
 ) -> Taken
-    ensures { λ r. ⌜ Takes level puller method (toPuller (now (table .entry)) (now (semaphores .entry))) r (now (semaphores .exit)) ⌝ }
+    ensures { λ r. ⌜ Takes level puller method (toPuller (now (table .entry)) (now (semaphores .entry)) clock) r (now (semaphores .exit)) ⌝ }
 {
     let number = method.method;
     match number {
         0x00 => bind(puller, method, table),
-        0x10..=0x24 => done(puller, Kind::Event, method),
+        0x10..=0x24 => long(level, puller, method, semaphores, clock),
         0x50 => refer(puller, method),
         0x60 => dma(level, puller, method, table),
         0x64 => offset(level, puller, method),
@@ -54,12 +60,14 @@ pub fn take(
     }
 }
 
-// Reads the semaphore of an active acquire again (P16): whether there is such a word, and its value.
+// Reads the semaphore of an active acquire again (P16, P31): whether there is such a word, and its value.
 pub fn retry(level: Level, puller: Puller, semaphores: &[u32]) -> Taken
     ensures { λ r. ⌜ Retries level puller (now (semaphores .entry)) r ⌝ }
 {
-    match trial_of(semaphores, place(puller), puller.acquire.value) {
-        Trial::Outside => failed(puller, past_end(level)),
+    let acquire = puller.acquire;
+    let mode = acquire.mode;
+    match trial_of(semaphores, mode, place_in(puller, mode), acquire.value) {
+        Trial::Outside => failed(puller, past_end(level, mode)),
         Trial::Passes => {
             let mut next = puller;
             next.acquire.active = false;
@@ -207,35 +215,81 @@ fn unready(level: Level, puller: Puller) -> bool
     !puller.semaphore.valid
 }
 
-// Where the semaphore is: its word's place in the memory, whatever the object.
-fn place(puller: Puller) -> usize
-    ensures { λ r. ⌜ r ≡ placeOf puller ⌝ }
+// Where the semaphore is, by the mode: its word's place in the memory, whatever the object.
+fn place_in(puller: Puller, mode: AcquireMode) -> usize
+    ensures { λ r. ⌜ r ≡ placeIn puller mode ⌝ }
 {
-    (puller.semaphore.offset / 4) as usize
+    match mode {
+        AcquireMode::Old => (puller.semaphore.offset / 4) as usize,
+        AcquireMode::Equal => long_place(puller),
+        AcquireMode::GreaterOrEqual => long_place(puller),
+    }
+}
+
+// Where the long semaphore's first word is.
+fn long_place(puller: Puller) -> usize
+    ensures { λ r. ⌜ r ≡ longPlace puller ⌝ }
+{
+    (puller.long.address / 4) as usize
 }
 
 // The error of a semaphore past the end of the memory.
-fn past_end(level: Level) -> PullerError
-    ensures { λ r. ⌜ r ≡ pastEnd (level .number) ⌝ }
+fn past_end(level: Level, mode: AcquireMode) -> PullerError
+    ensures { λ r. ⌜ r ≡ pastEnd (level .number) mode ⌝ }
 {
-    if level.number < Level::NV50.number {
-        PullerError::Semaphore2
-    } else {
-        PullerError::Semaphore4
+    match mode {
+        AcquireMode::Old => {
+            if level.number < Level::NV50.number {
+                return PullerError::Semaphore2;
+            }
+            PullerError::Semaphore4
+        }
+        AcquireMode::Equal => PullerError::Semaphore4,
+        AcquireMode::GreaterOrEqual => PullerError::Semaphore4,
+    }
+}
+
+// Whether a word lets an acquire of a value pass. 'Greater or equal' is said of the difference, read
+// as signed: it wraps, and is not negative below 2^31.
+fn passes_in(mode: AcquireMode, word: u32, value: u32) -> bool
+    ensures { λ r. ⌜ r ≡ passesIn mode word value ⌝ }
+{
+    match mode {
+        AcquireMode::Old => word == value,
+        AcquireMode::Equal => word == value,
+        AcquireMode::GreaterOrEqual => std::num::wrapping_sub_u32(word, value) < 0x8000_0000,
     }
 }
 
 // What an acquire of a value comes to at a place of the memory.
-fn trial_of(semaphores: &[u32], place: usize, value: u32) -> Trial
-    ensures { λ r. ⌜ r ≡ trialOf place value (now (semaphores .entry)) ⌝ }
+fn trial_of(semaphores: &[u32], mode: AcquireMode, place: usize, value: u32) -> Trial
+    ensures { λ r. ⌜ r ≡ trialOf mode place value (now (semaphores .entry)) ⌝ }
 {
     if semaphores.len() <= place {
         return Trial::Outside;
     }
-    if semaphores[place] == value {
+    if passes_in(mode, semaphores[place], value) {
         return Trial::Passes;
     }
     Trial::Waits
+}
+
+// An acquire of a value: it fails, goes on, or waits.
+fn acquire_in(
+    level: Level,
+    puller: Puller,
+    method: Method,
+    mode: AcquireMode,
+    value: u32,
+    semaphores: &[u32],
+) -> Taken
+    ensures { λ r. ⌜ r ≡ acquireIn (level .number) puller method mode value (now (semaphores .entry)) ⌝ }
+{
+    match trial_of(semaphores, mode, place_in(puller, mode), value) {
+        Trial::Outside => failed(puller, past_end(level, mode)),
+        Trial::Passes => done(puller, Kind::Acquire, method),
+        Trial::Waits => done(puller.with_acquire(value, mode), Kind::Wait, method),
+    }
 }
 
 fn acquire(level: Level, puller: Puller, method: Method, semaphores: &[u32]) -> Taken
@@ -244,30 +298,149 @@ fn acquire(level: Level, puller: Puller, method: Method, semaphores: &[u32]) -> 
     if unready(level, puller) {
         return failed(puller, PullerError::Semaphore2);
     }
-    match trial_of(semaphores, place(puller), method.parameter) {
-        Trial::Outside => failed(puller, past_end(level)),
-        Trial::Passes => done(puller, Kind::Acquire, method),
-        Trial::Waits => {
-            let mut next = puller;
-            next.acquire.active = true;
-            next.acquire.value = method.parameter;
-            done(next, Kind::Wait, method)
-        }
-    }
+    acquire_in(
+        level,
+        puller,
+        method,
+        AcquireMode::Old,
+        method.parameter,
+        semaphores,
+    )
 }
 
 fn release(level: Level, puller: Puller, method: Method, semaphores: &mut [u32]) -> Taken
-    ensures { λ r. ⌜ Releases (level .number) puller method (now (semaphores .entry)) r (now (semaphores .exit)) ⌝ }
+    ensures { λ r. ⌜ Writes (releaseOf (level .number) puller method (now (semaphores .entry))) r (now (semaphores .exit)) ⌝ }
 {
     if unready(level, puller) {
         return failed(puller, PullerError::Semaphore2);
     }
-    let place = place(puller);
+    let place = place_in(puller, AcquireMode::Old);
     if semaphores.len() <= place {
-        return failed(puller, past_end(level));
+        return failed(puller, past_end(level, AcquireMode::Old));
     }
     semaphores[place] = method.parameter;
     done(puller, Kind::Release, method)
+}
+
+// The methods of long semaphores, from level 5 on; below it, and between them, there is only the event.
+fn long(level: Level, puller: Puller, method: Method, semaphores: &mut [u32], clock: u64) -> Taken
+    requires { ⌜ (0x10 ≤ method .method) × (method .method ≤ 0x24) ⌝ }
+    ensures { λ r. ⌜ TakesLong level puller method (now (semaphores .entry)) clock r (now (semaphores .exit)) ⌝ }
+{
+    if level.number < Level::NV84.number {
+        return done(puller, Kind::Event, method);
+    }
+    let number = method.method;
+    match number {
+        0x10 => address_high(puller, method),
+        0x14 => address_low(puller, method),
+        0x18 => {
+            let mut next = puller;
+            next.long.sequence = method.parameter;
+            done(next, Kind::Event, method)
+        }
+        0x1c => trigger(level, puller, method, semaphores, clock),
+        _ => done(puller, Kind::Event, method),
+    }
+}
+
+// Bits 39-32 of the long semaphore's address.
+fn address_high(puller: Puller, method: Method) -> Taken
+    ensures { λ r. ⌜ r ≡ highOf puller method ⌝ }
+{
+    let high = method.parameter;
+    if 255 < high {
+        return failed(puller, PullerError::Semaphore3);
+    }
+    let address = with_high(puller.long.address, high);
+    let mut next = puller;
+    next.long.address = address;
+    done(next, Kind::Event, method)
+}
+
+// Its bits 31-0.
+fn address_low(puller: Puller, method: Method) -> Taken
+    ensures { λ r. ⌜ r ≡ lowOf puller method ⌝ }
+{
+    let low = method.parameter;
+    if low % 4 != 0 {
+        return failed(puller, PullerError::Semaphore1);
+    }
+    let address = with_low(puller.long.address, low);
+    let mut next = puller;
+    next.long.address = address;
+    done(next, Kind::Event, method)
+}
+
+// An address with other bits 39-32, and with other bits 31-0.
+fn with_high(address: u64, high: u32) -> u64
+    requires { ⌜ high ≤ 255 ⌝ }
+    ensures { λ r. ⌜ r ≡ addressOf high (bits 31 0 address) ⌝ }
+{
+    (high as u64) * 0x1_0000_0000 + address % 0x1_0000_0000
+}
+
+fn with_low(address: u64, low: u32) -> u64
+    ensures { λ r. ⌜ r ≡ addressOf (bits 39 32 address) (bits 31 0 low) ⌝ }
+{
+    address / 0x1_0000_0000 % 0x100 * 0x1_0000_0000 + low as u64
+}
+
+// What is done with a long semaphore goes by the whole parameter.
+fn trigger(
+    level: Level,
+    puller: Puller,
+    method: Method,
+    semaphores: &mut [u32],
+    clock: u64,
+) -> Taken
+    ensures { λ r. ⌜ Writes (triggerOf (level .number) puller method clock (now (semaphores .entry))) r (now (semaphores .exit)) ⌝ }
+{
+    let operation = method.parameter;
+    let sequence = puller.long.sequence;
+    match operation {
+        1 => acquire_in(
+            level,
+            puller,
+            method,
+            AcquireMode::Equal,
+            sequence,
+            semaphores,
+        ),
+        2 => long_release(puller, method, semaphores, clock),
+        4 => acquire_in(
+            level,
+            puller,
+            method,
+            AcquireMode::GreaterOrEqual,
+            sequence,
+            semaphores,
+        ),
+        _ => failed(puller, PullerError::Semaphore2),
+    }
+}
+
+// Where there is no room for all four words, none is written.
+fn long_release(puller: Puller, method: Method, semaphores: &mut [u32], clock: u64) -> Taken
+    ensures { λ r. ⌜ Writes (longReleaseOf puller method clock (now (semaphores .entry))) r (now (semaphores .exit)) ⌝ }
+{
+    let place = long_place(puller);
+    if semaphores.len() <= place + 3 {
+        return failed(puller, PullerError::Semaphore4);
+    }
+    write_long(semaphores, place, puller.long.sequence, clock);
+    done(puller, Kind::Release, method)
+}
+
+// Writes the sequence, 0 and the clock, its lower half first.
+fn write_long(semaphores: &mut [u32], place: usize, sequence: u32, clock: u64)
+    requires { ⌜ place + 3 < length (now semaphores) ⌝ }
+    ensures { λ _. ⌜ now (semaphores .exit) ≡ sets (now (semaphores .entry)) place (longWords sequence clock) ⌝ }
+{
+    semaphores[place] = sequence;
+    semaphores[place + 1] = 0;
+    semaphores[place + 2] = (clock % 0x1_0000_0000) as u32;
+    semaphores[place + 3] = (clock / 0x1_0000_0000) as u32;
 }
 
 fn forward_object(puller: Puller, method: Method, table: &[u32]) -> Taken

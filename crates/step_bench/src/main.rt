@@ -79,13 +79,21 @@ fn least(a: usize, b: usize) -> usize
 }
 
 // Makes the steps, counts their answers and gives the last read address. The one object has an engine, so
-// that methods can be forwarded.
+// that methods can be forwarded; the clock counts the steps.
 fn stepped(level: u32, steps: u32, words: &[u32], counts: &mut [u32]) -> u64 {
     let table = [1, 1, 0x1000, 0];
     let mut semaphores = [0u32; 16];
     let mut channel = opened(level, words.len(), &table);
-    for _ in 0..steps {
-        channel = step(channel, level, words, &table, &mut semaphores, counts);
+    for clock in 0..steps {
+        channel = step(
+            channel,
+            level,
+            words,
+            &table,
+            &mut semaphores,
+            clock as u64,
+            counts,
+        );
     }
     channel.pusher.get
 }
@@ -96,9 +104,10 @@ fn step(
     words: &[u32],
     table: &[u32],
     semaphores: &mut [u32],
+    clock: u64,
     counts: &mut [u32],
 ) -> Channel {
-    let stepped = channel.step(words, &[], table, semaphores);
+    let stepped = channel.step(words, &[], table, semaphores, clock);
     let answer = stepped.answer;
     let number = number_of(answer);
     count(counts, number as usize);

@@ -57,7 +57,7 @@ module _ (t : Trace) (ws sems : List ℕ) (told : Told) (exit : List ℕ) where
       ending b e = subst (λ (x : Ending). Leaves (orEnd t ws sems x) told exit) (sym is ∙ e) (staged _ (is-running (t .stage) s))
 
       -- and of one that goes on, by what its step answers
-      module _ (goes : endingNumber a ≡ 0) (r : Stepped) (after : List ℕ) (m : StepsTo (t .channel) (toStep ws [] [] sems) r after) where
+      module _ (goes : endingNumber a ≡ 0) (r : Stepped) (after : List ℕ) (m : StepsTo (t .channel) (toStep ws [] [] sems 0) r after) where
         answers : (b : Answer) → r .answer ≡ b → Leaves (answered t (r .channel) after b) told exit
         unfolding orEnd
         answers b e =
@@ -72,7 +72,7 @@ module _ (t : Trace) (ws sems : List ℕ) (told : Told) (exit : List ℕ) where
         at-refusal : (n : Refusal) → stepRefusal (r .answer) ≡ some (n .number) → RefusedLine n (told .line) × Closes t sems told exit
         unfolding answered
         at-refusal n v =
-            closes (refusedText (n .number)) after (channel.refused .step-unchanged (t .channel) (toStep ws [] [] sems) after r m (n .number) v .1)
+            closes (refusedText (n .number)) after (channel.refused .step-unchanged (t .channel) (toStep ws [] [] sems 0) after r m (n .number) v .1)
             (answers (answer.Refused n) (says-refusal (r .answer) (n .number) v))
 
 pub next-line : NextLine

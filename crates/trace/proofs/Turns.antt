@@ -164,7 +164,7 @@ module _ (bytes : List ℕ) where
       (n : ℕ) (d : Channel) (sems exit : List ℕ) (r : Stepped)
       → d ≡ momentAfter bytes n .channel
       → sems ≡ momentAfter bytes n .semaphores
-      → StepsTo d (toStep (wordsOf bytes) [] [] sems) r exit
+      → StepsTo d (toStep (wordsOf bytes) [] [] sems 0) r exit
       → (r ≡ stepAfter bytes n .stepped) × (exit ≡ stepAfter bytes n .memory)
   step-there n d sems exit r a b m = rw (m .answer, m .memory, a, b) (refl, refl)
 
@@ -185,7 +185,7 @@ module _ (bytes : List ℕ) where
       → ((i : ℕ) → getD bytes i 0 < 2 ^ 8)
       → first (programCases (length bytes)) ≡ none
       → LeadsTo (wordsOf bytes) (beginOf (length bytes) .channel) d sems
-      → StepsTo d (toStep (wordsOf bytes) [] [] sems) r exit
+      → StepsTo d (toStep (wordsOf bytes) [] [] sems 0) r exit
       → stepRefusal (r .answer) ≡ none
   none-refused-there d sems exit r narrow fine led m =
       let x = moments d sems led in

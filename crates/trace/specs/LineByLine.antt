@@ -46,7 +46,7 @@ beginOf bytes = refusedOr (λ r. traceAt (Refused r) fresh 0) (first (programCas
 
 -- T1: what each step is lent
 abbrev pub lending : List ℕ → List ℕ → Loan
-lending ws sems = toStep ws [] [] sems
+lending ws sems = toStep ws [] [] sems 0
 
 -- What a line leaves: the line with the run after it, and the semaphore words.
 pub record Leaving : Type 0 where

@@ -267,15 +267,15 @@ pub record NextLine : Type 0 where
       → endingNumber a ≡ endNumber e
       → endingValues a ≡ endValues e
       → EndLine e (t .steps) (t .channel .pusher .get) (t .channel .puller .reference) (told .line) × Closes t sems told exit
-  -- T1, T3: and one that goes on makes a step, to which the words, the semaphore words, no IB entries and an empty table are lent, and
-  -- tells its event, with the read address before the step
+  -- T1, T3: and one that goes on makes a step, to which the words, the semaphore words, no IB entries, an empty table and the clock 0
+  -- are lent, and tells its event, with the read address before the step
   pub step :
       (t : Trace) (ws sems : List ℕ) (told : Told) (exit : List ℕ) (a : Ending) (r : Stepped) (after : List ℕ) (e : Event)
       → Tells t ws sems told exit
       → stageNumber (t .stage) ≡ 2
       → Ends (t .channel) (t .steps) a
       → endingNumber a ≡ 0
-      → StepsTo (t .channel) (toStep ws [] [] sems) r after
+      → StepsTo (t .channel) (toStep ws [] [] sems 0) r after
       → answerValues (r .answer) ≡ values e
       → StepLine (t .steps + 1) (t .channel .pusher .get) e (told .line) × Counts t r after told exit
   -- or its refusal
@@ -285,7 +285,7 @@ pub record NextLine : Type 0 where
       → stageNumber (t .stage) ≡ 2
       → Ends (t .channel) (t .steps) a
       → endingNumber a ≡ 0
-      → StepsTo (t .channel) (toStep ws [] [] sems) r after
+      → StepsTo (t .channel) (toStep ws [] [] sems 0) r after
       → stepRefusal (r .answer) ≡ some (n .number)
       → RefusedLine n (told .line) × Closes t sems told exit
 
@@ -316,13 +316,13 @@ pub data Tells-in-turn (ws : List ℕ) : ℕ → Trace → List ℕ → List ℕ
       → Tells-in-turn ws (suc k) t sems (take (told .line .length) (told .line .bytes) ++ rest)
 
 -- the channel and the semaphore words that steps lead to, from a channel and 1,024 zero semaphore words, where these words, no IB
--- entries and an empty table are lent
+-- entries, an empty table and the clock 0 are lent
 pub data LeadsTo (ws : List ℕ) (c : Channel) : Channel → List ℕ → Type 0 where
   none-made : LeadsTo ws c c (replicate 1024 0)
   step-made :
       (d e : Channel) (sems exit : List ℕ) (r : Stepped)
       → LeadsTo ws c d sems
-      → StepsTo d (toStep ws [] [] sems) r exit
+      → StepsTo d (toStep ws [] [] sems 0) r exit
       → e ≡ r .channel
       → LeadsTo ws c e exit
 
@@ -341,7 +341,7 @@ pub record Printed : Type 0 where
       → Begins (length bytes) t
       → stageRefusal (t .stage) ≡ none
       → LeadsTo (wordsOf bytes) (t .channel) d sems
-      → StepsTo d (toStep (wordsOf bytes) [] [] sems) r exit
+      → StepsTo d (toStep (wordsOf bytes) [] [] sems 0) r exit
       → stepRefusal (r .answer) ≡ none
 
 -- Texts to try: T3, T4, T7 with two words; no words; an error; and T2

@@ -141,7 +141,7 @@ fn step(trace: Trace, words: &[u32], semaphores: &mut [u32]) -> Told
     let channel = trace.channel;
     let get = channel.pusher.get;
     let steps = trace.steps + 1;
-    let stepped = channel.step(words, &[], &[], semaphores);
+    let stepped = channel.step(words, &[], &[], semaphores, 0);
     let channel = stepped.channel;
     let answer = stepped.answer;
     match answer {

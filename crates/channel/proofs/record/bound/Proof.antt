@@ -27,16 +27,17 @@ bound-spec =
     Inv-loop
     μ-loop
     (λ c. rw (wide _ 5 _ (c .if1 .taken)))
+    (λ c. rw (narrow _ 5 _ (c .before .before .if1 .left), wide _ 40 _ (c .if2 .taken)))
     (λ c. (omega arith, unfold lowest in refl))
     (λ c. omega arith)
     (λ c. omega arith)
     (λ c.
-    let p = c .before .before .before .before .before .before .args .puller in
-    rw (engine-wide p _ (c .before .before .loop .inv .1) (omega arith) (c .if2 .taken), and-false))
+    let p = c .before .before .before .before .before .before .before .before .args .puller in
+    rw (engine-wide p _ (c .before .before .loop .inv .1) (omega arith) (c .if3 .taken), and-false))
     (λ c. omega arith)
     (λ c. omega arith)
-    (λ c. (omega arith, lowest-more _ _ (c .before .before .loop .inv .1) (lt-leb _ _ (c .if2 .left))))
+    (λ c. (omega arith, lowest-more _ _ (c .before .before .loop .inv .1) (lt-leb _ _ (c .if3 .left))))
     (λ c.
-    let p = c .before .before .before .before .before .args .puller in
+    let p = c .before .before .before .before .before .before .before .args .puller in
     let e : c .before .loop .subchannel ≡ 8 = omega arith in
-    rw (narrow _ 5 _ (c .before .before .before .if1 .left), engines-narrow p (rw e at (c .before .loop .inv .1))) (unfold within in refl)))
+    rw (narrow _ 5 _ (c .before .before .before .before .before .if1 .left), narrow _ 40 _ (c .before .before .before .if2 .left), engines-narrow p (rw e at (c .before .loop .inv .1))) (unfold within in refl)))

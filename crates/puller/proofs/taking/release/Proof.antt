@@ -2,12 +2,12 @@ use mathlib.Core.Path.{sym, _∙_}
 use borrow.Author.Needs.{needs}
 use borrow.Author.Tests.{le-leb, lt-leb}
 use Rattle.word.specs.First.{choose}
-use Rattle.puller.specs.Taking.{releaseOf}
+use Rattle.puller.specs.Taking.{placeIn, releaseOf}
 use Rattle.puller.proofs.taking.release.Statement.{statement}
 use Rattle.puller.proofs.taking.release.Tie as tie
 
 pub release-spec : {M : Type 1} → statement M
-unfolding releaseOf choose
+unfolding placeIn releaseOf choose
 release-spec =
     tie.close
     (tie.spec
@@ -25,8 +25,8 @@ release-spec =
     let ready = sym (one .before .unready .ensures) ∙ one .if1 .left in
     let past = le-leb _ _ (two .if2 .taken) in
     record {
-      answer = rw (c .failed2 .ensures, c .before .past-end .ensures, ready, ← two .before .place .ensures, past);
-      memory = rw (ready, ← two .before .place .ensures, past);
+      answer = rw (c .failed2 .ensures, c .before .past-end .ensures, ready, ← two .before .place-in .ensures, past);
+      memory = rw (ready, ← two .before .place-in .ensures, past);
     })
     (λ c. search needs)
     (λ c. search needs)
@@ -38,6 +38,6 @@ release-spec =
     let ready = sym (one .before .unready .ensures) ∙ one .if1 .left in
     let inside = lt-leb _ _ (two .if2 .left) in
     record {
-      answer = rw (c .done .ensures, ready, ← two .before .place .ensures, inside);
-      memory = rw (ready, ← two .before .place .ensures, inside);
+      answer = rw (c .done .ensures, ready, ← two .before .place-in .ensures, inside);
+      memory = rw (ready, ← two .before .place-in .ensures, inside);
     }))

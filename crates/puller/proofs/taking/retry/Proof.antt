@@ -19,11 +19,11 @@ retry-spec =
     (λ c.
     let told = c .before .before in
     let asked = told .before .before in
-    rw (c .failed .ensures, c .before .past-end .ensures, ← asked .before .place .ensures, sym (asked .trial-of .ensures) ∙ told .enum-told .given .1))
+    rw (c .failed .ensures, c .before .past-end .ensures, ← asked .before .place-in .ensures, sym (asked .trial-of .ensures) ∙ told .enum-told .given .1))
     (λ c.
     let told = c .before in
     let asked = told .before .before in
-    rw (← asked .before .place .ensures, sym (asked .trial-of .ensures) ∙ told .enum-told2 .given .1))
+    rw (← asked .before .place-in .ensures, sym (asked .trial-of .ensures) ∙ told .enum-told2 .given .1))
     (λ c.
     let asked = c .before .before in
-    rw (← asked .before .place .ensures, sym (asked .trial-of .ensures) ∙ c .enum-told3 .given .1)))
+    rw (← asked .before .place-in .ensures, sym (asked .trial-of .ensures) ∙ c .enum-told3 .given .1)))

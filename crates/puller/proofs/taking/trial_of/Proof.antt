@@ -1,5 +1,6 @@
 use borrow.Author.Needs.{needs}
-use borrow.Author.Tests.{le-leb, lt-leb, eq-eqb, ne-eqb}
+use borrow.Author.Tests.{le-leb, lt-leb}
+use mathlib.Core.Path.{sym, _∙_}
 use Rattle.word.specs.First.{choose}
 use Rattle.puller.specs.Taking.{trialOf}
 use Rattle.puller.proofs.taking.trial_of.Statement.{statement}
@@ -13,5 +14,10 @@ trial-of-spec =
     (λ c. rw (le-leb _ _ (c .if1 .taken)))
     (λ c. search needs)
     (λ c. search needs)
-    (λ c. rw (lt-leb _ _ (c .before .before .if1 .left), eq-eqb _ _ (c .if2 .taken)))
-    (λ c. rw (lt-leb _ _ (c .before .before .if1 .left), ne-eqb _ _ (c .if2 .left))))
+    (λ c κs. search needs)
+    (λ c.
+    let one = c .before .before .before in
+    rw (lt-leb _ _ (one .if1 .left), sym (c .before .passes-in .ensures) ∙ c .if2 .taken))
+    (λ c.
+    let one = c .before .before .before in
+    rw (lt-leb _ _ (one .if1 .left), sym (c .before .passes-in .ensures) ∙ c .if2 .left)))

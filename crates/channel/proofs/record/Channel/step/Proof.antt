@@ -10,7 +10,7 @@ use Rattle.channel.proofs.record.Channel.step.Tie as tie
 
 -- what is lent
 abbrev lent : tie.Start → Loan
-lent c = toStep (c .args .words .now) (c .args .entries .now) (c .args .table .now) (c .args .semaphores .now)
+lent c = toStep (c .args .words .now) (c .args .entries .now) (c .args .table .now) (c .args .semaphores .now) (c .args .clock)
 
 -- the channel is well-formed
 well : (c : tie.Else1) → wellFormed (c .before .before .before .before .before .before .args .self) ≡ true
