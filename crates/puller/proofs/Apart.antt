@@ -9,15 +9,12 @@ use native.Mathlib.Omega.{arith}
 use lib.Dec.{leb}
 use borrow.Author.Tests.{leb-true}
 use Rattle.word.specs.First.{choose}
-use Rattle.word.specs.declared.setting.Level.{Level}
 use Rattle.word.proofs.First.{by-test}
 use Rattle.word.proofs.Tests.{both}
-use Rattle.event.specs.Event.{values}
 use Rattle.event.specs.declared.Method.{Method}
-use Rattle.event.specs.declared.Event.{Event}
 use Rattle.puller.specs.Loan.{PullerLoan, toPuller}
 use Rattle.puller.specs.Record.{withLong}
-use Rattle.puller.specs.Taking.{Deed, binds, refers, logs, bindsSemaphore, offsets, acquires, releases, forwards, looksAndForwards, addressesHigh, addressesLow, sequences, triggers, rows, deedIn, deedOf, failedBy, lookingUp, bindTo, bindOf, dmaTo, dmaOf, offsetOf, unreadyAt, longPlace, placeIn, isPast, trialOf, tried, acquireIn, acquireOf, retryOf, forwardOf, forwardObjectOf, Result, unwritten, releaseOf, longReleaseOf, triggerOf, act, takeOf}
+use Rattle.puller.specs.Taking.{Deed, binds, refers, logs, bindsSemaphore, offsets, acquires, releases, forwards, looksAndForwards, addressesHigh, addressesLow, sequences, triggers, rows, deedIn, deedOf, lookingUp, bindTo, bindOf, dmaTo, dmaOf, offsetOf, unreadyAt, longPlace, placeIn, isPast, trialOf, tried, acquireIn, acquireOf, retryOf, forwardOf, forwardObjectOf, Result, unwritten, releaseOf, longReleaseOf, triggerOf, act, takeOf}
 use Rattle.puller.specs.Promises.{ButLong, ButClock, SameButLong, Apart}
 use Rattle.puller.specs.declared.object.Object.{Object}
 use Rattle.puller.specs.declared.object.Found.{Found}

@@ -34,18 +34,18 @@ unfolding choose
 same true d = refl
 same false d = refl
 
--- a row of one method that is there from a level on, where the level is below it for that method
+-- a row of one method, from a level on, that is passed over: it is another's, or the level is lower
 too-early : (k from level m : ℕ) → (m ≡ k → level < from) → ((leb k m && leb m k) && leb from level) ≡ false
 too-early k from level m h = by-cases (ℕ-discrete m k) (λ e. rw (lt-leb from level (h e), and-false)) (λ n. rw (another k m n))
 
 -- those of long semaphores lie between 0x10 and 0x24
 pub none-beyond : (m : ℕ) → (m < 0x10) ⊎ (0x24 < m) → (m ≡ 0x10) ⊎ (m ≡ 0x14) ⊎ (m ≡ 0x18) ⊎ (m ≡ 0x1c) → ⊥
 none-beyond m away s =
-    let not : (k : ℕ) → 0x10 ≤ k → k ≤ 0x24 → m ≡ k → ⊥ = λ k h t e. ⊎-elim (λ l. omega arith) (λ l. omega arith) away in
-    ⊎-elim (not 0x10 (omega arith) (omega arith))
+    let other : (k : ℕ) → 0x10 ≤ k → k ≤ 0x24 → m ≡ k → ⊥ = λ k h t e. ⊎-elim (λ l. omega arith) (λ l. omega arith) away in
+    ⊎-elim (other 0x10 (omega arith) (omega arith))
     (λ s.
-    ⊎-elim (not 0x14 (omega arith) (omega arith))
-    (λ s. ⊎-elim (not 0x18 (omega arith) (omega arith)) (not 0x1c (omega arith) (omega arith)) s) s) s
+    ⊎-elim (other 0x14 (omega arith) (omega arith))
+    (λ s. ⊎-elim (other 0x18 (omega arith) (omega arith)) (other 0x1c (omega arith) (omega arith)) s) s) s
 
 -- the methods that have a number of their own, and those that have one from level 5 on
 pub record Numbered (level m : ℕ) : Type 0 where

@@ -19,7 +19,7 @@ use Rattle.puller.specs.Loan.{PullerLoan}
 use Rattle.puller.specs.Record.{number, halts}
 use Rattle.puller.specs.Taking.{passesIn, binds, refers, logs, bindsSemaphore, offsets, acquires, releases, forwards, looksAndForwards, addressesHigh, addressesLow, sequences, triggers, doneWith, failedBy, Result, unwritten, retryOf, releaseOf, addressOf, triggerOf, act, pastEnd}
 use Rattle.puller.specs.Contracts.{Takes}
-use Rattle.puller.specs.Promises.{Looks, FirstRepeat, Names, Ready, Inside, wordIn, Unnamed, engineAt, IsLong, LongInside, longWordIn, Passes, AsksFor, FourWritten, Setters, telling, Leaves, Fails, LongSentences, Sentences, Pulls, RetrySentences, Retrying, NoOther, Compared, comparisons, SaysSo, Each, Signed, Errors, Lends, One}
+use Rattle.puller.specs.Promises.{Looks, FirstRepeat, Names, Ready, Inside, wordIn, Unnamed, engineAt, IsLong, LongInside, longWordIn, Passes, AsksFor, Setters, telling, Leaves, Fails, LongSentences, Sentences, Pulls, RetrySentences, Retrying, NoOther, Compared, comparisons, SaysSo, Each, Signed, Errors, Lends, One}
 use Rattle.puller.specs.declared.object.Object.{Object}
 use Rattle.puller.specs.declared.record.PullerError.{PullerError}
 use Rattle.puller.specs.declared.record.AcquireMode.{AcquireMode}
@@ -32,7 +32,7 @@ use Rattle.puller.proofs.Answers.{object-values, nothing-values, object
 use Rattle.puller.proofs.Causes.{error-numbered}
 use Rattle.puller.proofs.Deeds.{none-beyond, numbered, logs-at, no-effect-at, looks-at, forwards-at}
 use Rattle.puller.proofs.Sentences.{taken-as, unfit-or-not, bind-none, dma-none, object-none, bind-is, bind-software-is, dma-unfit-is, dma-is, object-is, offset-outside-is, offset-below-4-is, offset-unaligned-is, offset-too-large-is, offset-from-4-is, ready-or-not, past-end-is, past-end-of, passes-is, passes-or-not, tried-past, tried-passes, tried-waits, old-placed, acquire-unready, release-unready, acquire-past, release-past, acquire-is, wait-is, release-is, forward-software-is, forward-is}
-use Rattle.puller.proofs.Long.{high-too-large-is, high-is, low-unaligned-is, low-is, release-asked, at-least-asked, none-asked, acquire-asked, long-mode, long-placed, long-past, long-acquire-past, long-acquire-is, long-wait-is, written-one, long-release-past, long-release-is, long-release-writes}
+use Rattle.puller.proofs.Long.{high-too-large-is, high-is, low-unaligned-is, low-is, release-asked, none-asked, acquire-asked, long-mode, long-placed, long-past, long-acquire-past, long-acquire-is, long-wait-is, written-one, long-release-past, long-release-is, long-release-writes}
 
 pub looks : Looks
 looks =

@@ -618,6 +618,7 @@ SaysSo x =
     → p .long .sequence ≡ x .sequence
     → values (r .event) ≡ telling (x .says) m 4
 
+-- something of every row of a list
 abbrev pub Each : (Compared → Type 0) → List Compared → Type 0
 Each P [] = Unit {0}
 Each P (x ∷ xs) = P x × Each P xs

@@ -135,7 +135,7 @@ placeOf p = p .semaphore .offset / 4
 abbrev pub longPlace : Puller → ℕ
 longPlace p = p .long .address / 4
 
--- P14, P30: where an acquire's word is, by the mode;
+-- P14, P30: where an acquire's word is, by the mode
 unfoldable pub placeIn : Puller → AcquireMode → ℕ
 placeIn p mode.Old = placeOf p
 placeIn p mode.Equal = longPlace p

@@ -1,4 +1,4 @@
-use mathlib.Core.Path.{refl, _∙_}
+use mathlib.Core.Path.{refl}
 use borrow.Author.Needs.{needs}
 use Rattle.puller.proofs.Long.{writes-by, long-release-past, long-release-is}
 use Rattle.puller.proofs.taking.long_release.Statement.{statement}
