@@ -2,22 +2,20 @@
  * wild and refused. What is lent to the archive ends where an unreadable page begins; lengths that no memory
  * has are lent there. Accepted words are run on the model's channel, and the map of exactly the reached pairs
  * has to be accepted exactly if no place is bad. The first difference is described and ends the run. */
-#define _DEFAULT_SOURCE
-
 #include <inttypes.h>
 #include <signal.h>
 #include <stdio.h>
 #include <stdlib.h>
 #include <string.h>
-#include <sys/mman.h>
-#include <sys/wait.h>
-#include <unistd.h>
 
+#include "compare.h"
 #include "gate_draw.h"
 #include "gate_run.h"
 #include "upborliya.h"
 
-enum { STEPS = 500, FEWEST = 500, MOST_LINES = 4096 };
+enum { STEPS = 500, FEWEST = 500 };
+
+const char comparison[] = "gate compare";
 
 /* The header's numbers are the model's, and it leaves out no reason. */
 #define SAME_NUMBER(header, model) _Static_assert((int)(header) == (int)(model), #header " is " #model)
@@ -41,9 +39,6 @@ SAME_NUMBER(UPBORLIYA_REFUSAL_SLI, REFUSAL_SLI);
 SAME_NUMBER(UPBORLIYA_REFUSAL_SIZE, REFUSAL_SIZE);
 SAME_NUMBER(UPBORLIYA_REFUSAL_LENGTH, REFUSAL_LENGTH);
 
-/* Some submissions end so many bytes before the unreadable page, so that words lie at any address. */
-enum { MOST_GAP = 3 };
-
 /* The submission under way, and what the archive said of it once it has. */
 static struct given given;
 static bool is_answered;
@@ -61,28 +56,6 @@ static struct {
 
 /* ---- Differences ---- */
 
-/* The bytes in groups of so many, a line for each row of equal groups; not more lines than can be read. */
-static void print_bytes(const char *name, const uint8_t *bytes, size_t length, size_t group)
-{
-    unsigned lines = 0;
-    size_t next;
-
-    fprintf(stderr, "%s, %zu bytes:\n", name, length);
-    for (size_t at = 0; at < length && lines < MOST_LINES; at = next, lines++) {
-        size_t size = length - at < group ? length - at : group;
-
-        next = at + size;
-        while (next + size <= length && memcmp(bytes + at, bytes + next, size) == 0)
-            next += size;
-        fprintf(stderr, "  %zu to %zu: 0x", at / group, (next - 1) / group);
-        for (size_t i = size; i-- != 0;)
-            fprintf(stderr, "%02x", bytes[at + i]);
-        fputc('\n', stderr);
-    }
-    if (lines == MOST_LINES)
-        fprintf(stderr, "  and so on\n");
-}
-
 static void print_judgement(const char *name, struct judgement judgement)
 {
     fprintf(stderr, "%s: reason %" PRIu32 ", refusal %" PRIu32 ", count %" PRIu32 ", place %" PRIu32 "\n",
@@ -94,7 +67,7 @@ static void fail(const char *sentence)
 {
     struct submission submission = submission_of(&given);
 
-    fprintf(stderr, "gate compare: failed: %s\n", sentence);
+    fprintf(stderr, "%s: failed: %s\n", comparison, sentence);
     if (is_answered)
         print_judgement("archive", archive);
     print_judgement("model", model_judge(&submission));
@@ -112,15 +85,6 @@ static void fail_at_fault(int number)
     fail("nothing is read or written that is not lent");
 }
 
-/* What has nothing to do with a submission. */
-static void check(bool good, const char *sentence)
-{
-    if (good)
-        return;
-    fprintf(stderr, "gate compare: failed: %s\n", sentence);
-    exit(1);
-}
-
 /* ---- Lent memory ---- */
 
 /* The ends of the rooms for words, map and permit list, each the start of an unreadable page. */
@@ -130,78 +94,11 @@ static struct {
     uint8_t *permit;
 } ends;
 
-/* Room for so many bytes and a gap. */
-static uint8_t *make_room(size_t length)
-{
-    size_t page = (size_t)sysconf(_SC_PAGESIZE);
-    size_t readable = (length + MOST_GAP + page - 1) / page * page;
-    uint8_t *room = mmap(NULL, readable + page, PROT_READ | PROT_WRITE, MAP_PRIVATE | MAP_ANONYMOUS, -1, 0);
-
-    check(room != MAP_FAILED, "there is room");
-    check(mprotect(room + readable, page, PROT_NONE) == 0, "a page is made unreadable");
-    return room + readable;
-}
-
-/* The statuses of a process that reads one byte. */
-enum { READ = 0, FAULTED = 7 };
-
-static void exit_at_fault(int number)
-{
-    (void)number;
-    _exit(FAULTED);
-}
-
-/* Whether reading a byte raises SIGSEGV. It is tried in a process of its own, which takes the signal: if it
- * died of it, some machines would report a crash that is none. */
-static bool faults(const volatile uint8_t *byte)
-{
-    int status = 0;
-    pid_t child = fork();
-
-    check(child >= 0, "a process is made");
-    if (child == 0) {
-        signal(SIGSEGV, exit_at_fault);
-        (void)*byte;
-        _exit(READ);
-    }
-    check(waitpid(child, &status, 0) == child, "the process ends");
-    check(WIFEXITED(status) && (WEXITSTATUS(status) == READ || WEXITSTATUS(status) == FAULTED),
-          "the process reads a byte or faults");
-    return WEXITSTATUS(status) == FAULTED;
-}
-
-/* Reading one byte past a room faults, reading its last byte doesn't. */
-static void test_room(const uint8_t *end)
-{
-    check(faults(end), "reading past lent memory faults");
-    check(!faults(end - 1), "lent memory can be read");
-}
-
 static void make_rooms(void)
 {
     ends.words = make_room(sizeof given.words);
     ends.map = make_room(sizeof given.map);
     ends.permit = make_room(sizeof given.permit);
-    test_room(ends.words);
-    test_room(ends.map);
-    test_room(ends.permit);
-}
-
-/* A copy that ends with its room, or a gap before it. Every other time memory of length 0 is lent by a null
- * pointer. */
-static const uint8_t *lend(uint8_t *end, const uint8_t *bytes, size_t length)
-{
-    size_t turn = counts.submissions % 16;
-    size_t gap = turn <= MOST_GAP ? turn : 0;
-
-    if (length == 0 && turn % 2 == 0)
-        return NULL;
-    return memcpy(end - gap - length, bytes, length);
-}
-
-static bool is_kept(const uint8_t *lent, const uint8_t *bytes, size_t length)
-{
-    return length == 0 || memcmp(lent, bytes, length) == 0;
 }
 
 /* ---- One submission ---- */
@@ -226,9 +123,9 @@ static bool is_accepted(void)
 /* R31: asks the archive, which has to leave alone what it is lent, refused or not. */
 static upborliya_answer ask(void)
 {
-    const uint8_t *words = lend(ends.words, given.words, given.words_length);
-    const uint8_t *map = lend(ends.map, given.map, given.map_length);
-    const uint8_t *permit = lend(ends.permit, given.permit, given.permit_length);
+    const uint8_t *words = lend(ends.words, given.words, given.words_length, counts.submissions);
+    const uint8_t *map = lend(ends.map, given.map, given.map_length, counts.submissions);
+    const uint8_t *permit = lend(ends.permit, given.permit, given.permit_length, counts.submissions);
     upborliya_answer answer;
 
     is_answered = false;
@@ -376,7 +273,7 @@ static struct submission vast;
 
 static void fail_vast(const char *sentence)
 {
-    fprintf(stderr, "gate compare: failed: %s\n", sentence);
+    fprintf(stderr, "%s: failed: %s\n", comparison, sentence);
     fprintf(stderr, "level %" PRIu32 ", SLI %" PRIu32 "; words of %zu bytes, map of %zu, list of %zu\n",
             vast.level, vast.sli, vast.words_length, vast.map_length, vast.permit_length);
     exit(1);
@@ -452,7 +349,7 @@ static void test_vast(void)
 
 static void print_summary(void)
 {
-    printf("gate compare: %lu submissions, %lu of them with an exact map, %lu accepted, %lu runs\n",
+    printf("%s: %lu submissions, %lu of them with an exact map, %lu accepted, %lu runs\n", comparison,
            counts.submissions, counts.exact_maps, counts.reasons[REASON_NONE], counts.runs);
     printf("lengths of more than 32 bits: %lu submissions\n", counts.vast);
     printf("reasons:");
@@ -470,7 +367,7 @@ static void test_counts(void)
 {
     for (unsigned i = 1; i < REASON_COUNT; i++)
         if (counts.reasons[i] < FEWEST) {
-            fprintf(stderr, "gate compare: failed: reason %u was given %lu times, wanted %d\n", i,
+            fprintf(stderr, "%s: failed: reason %u was given %lu times, wanted %d\n", comparison, i,
                     counts.reasons[i], FEWEST);
             exit(1);
         }

@@ -269,3 +269,65 @@ void draw_wild(struct draw *draw, struct given *given, uint32_t count)
     if (count != 0 && !draw_once_in(draw, 8))
         given->map[0] |= STATE_MAIN;
 }
+
+/* ---- Tangled words ---- */
+
+/* H12: a third of all bytes are marks, or none. */
+void draw_map(struct draw *draw, struct given *given)
+{
+    for (size_t place = 0; place < given->map_length; place++) {
+        uint32_t any = draw_number(draw) & 0xff;
+        uint32_t bytes[] = {any % 4, any, 4 + any % 252};
+
+        given->map[place] = (uint8_t)draw_among(draw, bytes, 3);
+    }
+}
+
+/* A target among so many words, seldom the end or past it. */
+static uint32_t draw_tangle_target(struct draw *draw, uint32_t count)
+{
+    return 4 * draw_below(draw, draw_once_in(draw, 4) ? count + 2 : count);
+}
+
+/* G27: calls, jumps, returns, and commands that go on. Seldom a word that may be anything. */
+static uint32_t draw_tangle_word(struct draw *draw, uint32_t count)
+{
+    uint32_t target = draw_tangle_target(draw, count);
+    uint32_t parameters = draw_below(draw, 3) << 18;
+    uint32_t run = parameters | draw_below(draw, 8) << 13 | 0x100;
+
+    switch (draw_below(draw, 16)) {
+    case 0:
+    case 1:
+    case 2:
+    case 3:
+        return target | 2;
+    case 4:
+    case 5:
+        return target | 1;
+    case 6:
+        return 0x20000000 | target;
+    case 7:
+        return 0x00020000;
+    case 8:
+        return draw_wild_word(draw, count);
+    case 9:
+    case 10:
+        return 0x40000000 | run;
+    default:
+        return run;
+    }
+}
+
+void draw_tangle(struct draw *draw, struct given *given, uint32_t count)
+{
+    given->level = 2 + draw_below(draw, 4);
+    given->sli = given->level >= 3 && draw_once_in(draw, 2) ? draw_enabled(draw) : 0;
+    fill_permit(given, 0xff);
+    if (draw_once_in(draw, 3))
+        given->permit[256 * draw_below(draw, 8) + 0x100 / 32] = 0xfe;
+    set_count(given, count);
+    for (uint32_t place = 0; place < count; place++)
+        set_word(given, place, draw_tangle_word(draw, count));
+    draw_map(draw, given);
+}

@@ -60,6 +60,10 @@ uint32_t find_mark(const struct given *given, uint32_t from, uint8_t mark);
 /* The map becomes that of exactly the reached pairs. Nothing but the map may be refused. */
 struct path give_exact_map(struct given *given);
 
+/* Every entry of a room before it is lent. */
+#define UNTOUCHED UINT64_C(0xfedcba9876543210)
+void fill_room(uint64_t *room, size_t length);
+
 /* ---- Sound and wild ones (gate_draw.c) ---- */
 
 /* SLI as a number, enabled. */
@@ -74,6 +78,13 @@ void draw_wild(struct draw *draw, struct given *given, uint32_t count);
 
 /* A word of that kind, for a submission of so many. */
 uint32_t draw_wild_word(struct draw *draw, uint32_t count);
+
+/* So many words that mostly call and jump, so that much is reached, in both states and by several ways; most
+ * methods are permitted. The map is of any bytes. */
+void draw_tangle(struct draw *draw, struct given *given, uint32_t count);
+
+/* A map of any bytes, of which some are marks. */
+void draw_map(struct draw *draw, struct given *given);
 
 /* ---- What spoils them (gate_damage.c) ---- */
 

@@ -131,3 +131,11 @@ struct path give_exact_map(struct given *given)
 
     return model_path(&submission, given->map, room);
 }
+
+/* ---- Rooms ---- */
+
+void fill_room(uint64_t *room, size_t length)
+{
+    for (size_t i = 0; i < length; i++)
+        room[i] = UNTOUCHED;
+}

@@ -5,20 +5,23 @@
  *            | reason, refusal, count, place
  *   2 LARGE  level, SLI, the three lengths, the permit list's fill byte, every byte of the words, every byte
  *            of the map | reason, refusal, count, place
- * The bytes of words and map fill words from the low byte on, the last one up with 0. With --counts it
- * prints how many records there are of each kind, and how many per answer, instead. */
-#include "gate_draw.h"
-#include "vectors.h"
-
-/* What is counted: the kinds of record, then what --counts tells of both. */
-enum { JUDGE = 1, LARGE = 2, REFUSED = 3, MISREADING = 4 };
+ *   3 REPAIR level, SLI, the three lengths, the permit list's fill byte, how many of its bytes are others,
+ *            entries of the list's room, of the work room, the others' indices and values, the words, the
+ * map | refusal, count, the map at exit, how many entries of the list's room follow, these, how many of the
+ * work room, these 4 WIDE   level, SLI, the three lengths, the permit list's fill byte, entries of the
+ * list's room, of the work room, every byte of the words, every byte of the map | refusal, count, the map's
+ * byte at exit at place 0, at every other place; 0 where there is none 5 SEARCH level, mode, SLI, length of
+ * the words and of the permit list in bytes, the list's fill byte, how many of its bytes are others, entries
+ * of the room, the others' indices and values, the words | refusal, count, how many entries of the room
+ * follow, these 6 READ   level, mode, SLI, word, next word | the number for C, lower half, upper half The
+ * bytes of words and map fill words from the low byte on, the last one up with 0. An entry of a room is its
+ * lower half, then its upper half; before, each is 0xfedcba9876543210, and so are afterwards those that
+ * don't follow. Of a refusal none follow, else the whole list, and two a word of the other rooms. With
+ * --counts it prints how many records there are of each kind, and how many per answer, instead. */
+#include "gate_vectors.h"
 
 /* What a JUDGE record can hold. */
-enum {
-    MOST_WORDS = 256,
-    MOST_LISTED = 64,
-    MOST_RECORD = 7 + 2 * MOST_LISTED + MOST_WORDS + MOST_WORDS / 4 + 4
-};
+enum { MOST_RECORD = 7 + 2 * MOST_LISTED + MOST_WORDS + MOST_WORDS / 4 + 4 };
 
 /* The answers under which refused records are counted, apart from reasons. */
 enum { ANSWER_REFUSED = 20 };
@@ -29,7 +32,7 @@ _Static_assert(ANSWER_REFUSED + (int)REFUSAL_COUNT <= (int)ANSWERS, "every refus
  * whose next word needed no mark. */
 enum { MISREADING_NONE = 0, MISREADING_WRAP = 1, MISREADING_CALL = 2 };
 
-static struct given given;
+struct given given;
 
 /* ---- Counts ---- */
 
@@ -91,8 +94,7 @@ static void put_judged(struct vectors *vectors, uint32_t kind, uint32_t *record,
 
 /* ---- JUDGE ---- */
 
-/* Bytes as words; the answer is how many words they are. */
-static size_t add_bytes(uint32_t *record, const uint8_t *bytes, size_t length)
+size_t add_bytes(uint32_t *record, const uint8_t *bytes, size_t length)
 {
     size_t count = (length + 3) / 4;
 
@@ -102,8 +104,17 @@ static size_t add_bytes(uint32_t *record, const uint8_t *bytes, size_t length)
     return count;
 }
 
-/* How many permit bytes aren't the fill byte. */
-static uint32_t listed_count(void)
+size_t add_entries(uint32_t *record, const uint64_t *room, size_t length)
+{
+    record[0] = (uint32_t)length;
+    for (size_t i = 0; i < length; i++) {
+        record[1 + 2 * i] = (uint32_t)room[i];
+        record[2 + 2 * i] = (uint32_t)(room[i] >> 32);
+    }
+    return 1 + 2 * length;
+}
+
+uint32_t listed_count(void)
 {
     uint32_t count = 0;
 
@@ -112,8 +123,7 @@ static uint32_t listed_count(void)
     return count;
 }
 
-/* Their indices and values. */
-static size_t add_listed(uint32_t *record)
+size_t add_listed(uint32_t *record)
 {
     size_t count = 0;
 
@@ -126,8 +136,7 @@ static size_t add_listed(uint32_t *record)
     return count;
 }
 
-/* The lengths, after level and SLI, and the fill byte. */
-static size_t add_head(uint32_t *record)
+size_t add_head(uint32_t *record)
 {
     uint32_t head[] = {given.level,
                        given.sli,
@@ -140,8 +149,7 @@ static size_t add_head(uint32_t *record)
     return sizeof head / sizeof head[0];
 }
 
-/* A permit list with too many other bytes becomes one that permits all. */
-static void fit_permit(void)
+void fit_permit(void)
 {
     size_t length = given.permit_length;
 
@@ -165,10 +173,7 @@ static void put_judge(struct vectors *vectors)
     put_judged(vectors, JUDGE, record, count);
 }
 
-enum { SETTINGS = 9 };
-
-/* Setting i of SETTINGS: levels 0 to 5 with SLI off, then those that have it with SLI on. */
-static void give_setting(unsigned i)
+void give_setting(unsigned i)
 {
     given.level = i < 6 ? i : i - 3;
     given.sli = i < 6 ? 0 : 1;
@@ -388,8 +393,12 @@ static void put_larges(struct vectors *vectors)
 int main(int count, char **arguments)
 {
     /* JUDGE and LARGE are counted by the reason, 0 where accepted, or by 20 plus the refusal; REFUSED by the
-     * refusal, MISREADING by what is caught. */
-    static const char *const names[] = {"JUDGE", "LARGE", "REFUSED", "MISREADING"};
+     * refusal, MISREADING by what is caught. REPAIR, WIDE and SEARCH by the refusal, 0 where there is none,
+     * READ by the reading's number. */
+    static const char *const names[] = {
+        "JUDGE",  "LARGE", "REPAIR", "WIDE",  "SEARCH", "READ",  "REFUSED", "MISREADING", "CHANGED",
+        "CHANGE", "MARK",  "BAD",    "SHORT", "FOUND",  "ORDER", "SETTING", "LIST",       "CUT",
+    };
     static struct vectors vectors = {.draw = {0x5eed}};
 
     if (!read_arguments(&vectors, count, arguments))
@@ -400,6 +409,10 @@ int main(int count, char **arguments)
     put_runs(&vectors);
     put_drawn(&vectors);
     put_larges(&vectors);
+    put_repairs(&vectors);
+    put_wides(&vectors);
+    put_searches(&vectors);
+    put_readings(&vectors);
     if (vectors.counting)
         print_counts(&vectors, names, sizeof names / sizeof names[0]);
     return end_of_output();

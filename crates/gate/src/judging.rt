@@ -6,8 +6,8 @@ ghost use Rattle.word.specs.Lent.{wordsOf};
 ghost use Rattle.word.specs.Lowest.{lowest};
 ghost use Rattle.rules.specs.Map.{overThree};
 ghost use Rattle.rules.specs.Reason.{submission};
-ghost use Rattle.rules.specs.Judging.{lengthRefused, placeVerdict, startVerdict, verdictOf, refusing};
-ghost use Rattle.rules.specs.Contracts.{FirstRefuses, Judges};
+ghost use Rattle.rules.specs.Judging.{placeVerdict, startVerdict, verdictOf, refusing};
+ghost use Rattle.rules.specs.Contracts.{NoSuchLengths, FirstRefuses, Judges};
 use crate::map::all_bits;
 use crate::map::is_marked;
 use crate::map::next_start;
@@ -63,8 +63,8 @@ fn refused(refusal: Refusal) -> Judgement
 }
 
 // Whether the bytes are no whole words, or the map has not a byte for each, or the list is none.
-fn no_such_lengths(words: usize, map: usize, permit: usize) -> bool
-    ensures { λ r. ⌜ r ≡ lengthRefused words map permit ⌝ }
+pub fn no_such_lengths(words: usize, map: usize, permit: usize) -> bool
+    ensures { λ r. ⌜ NoSuchLengths words map permit r ⌝ }
 {
     if words % 4 != 0 {
         return true;

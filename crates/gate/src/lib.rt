@@ -9,6 +9,7 @@ mod reason;
 
 pub use judging::first_refused;
 pub use judging::judge;
+pub use judging::no_such_lengths;
 pub use map::marked_among;
 pub use next::nexts;
 pub use reason::arrival;

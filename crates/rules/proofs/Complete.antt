@@ -25,7 +25,7 @@ use Rattle.rules.proofs.Clean.{fine, Clean, none-wide, mark-none, unsta
 
 module _ (x : Submission) where
   -- what a pair without those reasons says of a next pair: it is at most the end
-  next-within : (p : ℕ) (s : Bool) (q : ℕ) (t : Bool) → flawAt x p s ≡ none → Next (commandAt x p) p s q t → q ≤ size x
+  pub next-within : (p : ℕ) (s : Bool) (q : ℕ) (t : Bool) → flawAt x p s ≡ none → Next (commandAt x p) p s q t → q ≤ size x
   next-within p s q t e n = ltb-false _ _ (quiet noMap x p s .0 e .arrivals q t n .past)
 
   -- what is reached lies before the end

@@ -13,6 +13,9 @@ pub mod Table
 pub mod Clean
 pub mod Complete
 pub mod ExactIsOne
+pub mod Growing
+pub mod ExactMap
+pub mod Finds
 pub mod Counted
 pub mod Small
 pub mod Promises

@@ -16,7 +16,7 @@ use Rattle.channel.proofs.Refusals.{refused-is, accepted-is}
 use Rattle.rules.specs.Reason.{Submission, submission}
 use Rattle.rules.specs.Judging.{judgeCases, placeVerdict, startVerdict, pairVerdict, verdictOf, refusing, settingOf, judged, judgeUpTo}
 use Rattle.rules.specs.Answers.{number, verdictRefusal}
-use Rattle.rules.specs.Promises.{judgePlain, Refused, One, Counted, Complete, NoneBad}
+use Rattle.rules.specs.Promises.{judgePlain, Lengths, Refused, One, Counted, Complete, NoneBad}
 use Rattle.rules.specs.Reasons.{Submitted}
 use Rattle.rules.specs.declared.judging.FirstRefused.{FirstRefused}
 use Rattle.rules.specs.declared.judging.FirstRefused.the-variants.{Nothing, At}
@@ -24,7 +24,7 @@ use Rattle.rules.specs.declared.judging.Verdict.{Verdict}
 use Rattle.rules.specs.declared.judging.Judgement.{Judgement}
 use Rattle.word.proofs.Bytes.{words-length}
 use Rattle.rules.proofs.Answers.{accepts}
-use Rattle.rules.proofs.Table.{judge-agree, none-told, Fits, unrefused, fits, passed}
+use Rattle.rules.proofs.Table.{lengths-plain, judge-agree, none-told, Fits, unrefused, fits, passed}
 use Rattle.rules.proofs.Counted.{count-pairs}
 use Rattle.rules.proofs.Clean.{one-of-three, clean}
 use Rattle.rules.proofs.Complete.{complete-verdict, reached-none-bad}
@@ -45,8 +45,12 @@ one =
       arrival = λ n q lacks a b. one-outcome;
       nexts = λ d p s a b. one-outcome;
       first-refused = λ setting bytes map list a b. one-outcome;
+      no-such-lengths = λ bytes map list a b. one-outcome;
       judge = λ level sli bytes map list a b. one-outcome;
     }
+
+pub lengths : Lengths
+lengths bytes map list r is = rw is (lengths-plain bytes map list)
 
 pub submitted : Submitted
 submitted =

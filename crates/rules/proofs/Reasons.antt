@@ -121,7 +121,7 @@ arrival-agree n q lacks h =
     (refl, less-plain n (q .place), (refl, and-plain _ (q .inside) end Iff·rfl, (refl, and-plain _ lacks (not-plain _ end) h, tt)))
 
 -- two lists after each other
-agree-append : (cs ds : List Case) (ps qs : List PlainCase) → Agree cs ps → Agree ds qs → Agree (cs ++ ds) (ps ++ qs)
+pub agree-append : (cs ds : List Case) (ps qs : List PlainCase) → Agree cs ps → Agree ds qs → Agree (cs ++ ds) (ps ++ qs)
 agree-append [] ds [] qs a b = b
 agree-append [] ds (p ∷ ps) qs a b = absurd a
 agree-append (c ∷ cs) ds [] qs a b = absurd a

@@ -16,9 +16,9 @@ use Rattle.word.proofs.Tests.{not-plain, or-plain, and-plain, less-plain, equal
 use Rattle.channel.proofs.Refusals.{NoneOf, none-of}
 use Rattle.word.specs.Lent.{wordsOf}
 use Rattle.rules.specs.Reason.{submission}
-use Rattle.rules.specs.Judging.{judgeCases, judged, verdictOf, refusing, settingOf, judgeUpTo}
+use Rattle.rules.specs.Judging.{lengthRefused, judgeCases, judged, verdictOf, refusing, settingOf, judgeUpTo}
 use Rattle.rules.specs.Answers.{Accepts}
-use Rattle.rules.specs.Promises.{judgePlain, Sized}
+use Rattle.rules.specs.Promises.{BadLengths, judgePlain, Sized}
 use Rattle.rules.specs.declared.judging.Verdict.the-variants.{Accepted}
 use Rattle.rules.specs.declared.judging.Judgement.{Judgement}
 use Rattle.word.proofs.Bytes.{words-length}
@@ -42,24 +42,22 @@ same a b h = go (eqb a b) refl
     go true e = eqb-true _ _ e
     go false e = absurd (h (eqb-false _ _ e))
 
+-- the lengths that don't fit
+pub lengths-plain : (bytes map list : ℕ) → lengthRefused bytes map list ≡ true ↔ BadLengths bytes map list
+lengths-plain bytes map list =
+    let unequal : (a b : ℕ) → not (eqb a b) ≡ true ↔ (a ≡ b → ⊥) = λ a b. not-plain (eqb a b) (equal-plain a b) in
+    or-plain _ _ (unequal (bytes % 4) 0) (or-plain _ _ (unequal map (bytes / 4)) (unequal list 2048))
+
 module _ (most level : ℕ) (sli : Bool) (bytes map list : List ℕ) where
   pub judge-agree : Agree (judgeCases most level sli bytes map list) (judgePlain most level sli bytes map list)
   judge-agree =
-      let unequal : (a b : ℕ) → not (eqb a b) ≡ true ↔ (a ≡ b → ⊥) = λ a b. not-plain (eqb a b) (equal-plain a b) in (
+      (
         refl,
         less-plain 5 level,
         (
           refl,
           and-plain sli (ltb level 3) Iff·rfl (less-plain level 3),
-          (
-            refl,
-            less-plain (4 * most) (length bytes),
-            (
-              refl,
-              or-plain _ _ (unequal (length bytes % 4) 0) (or-plain _ _ (unequal (length map) (length bytes / 4)) (unequal (length list) 2048)),
-              tt,
-            ),
-          ),
+          (refl, less-plain (4 * most) (length bytes), (refl, lengths-plain (length bytes) (length map) (length list), tt)),
         ),
       )
 

@@ -10,7 +10,7 @@ use Rattle.word.specs.declared.reading.Reading.{Reading}
 use Rattle.rules.specs.Map.{among}
 use Rattle.rules.specs.Next.{nexts, held}
 use Rattle.rules.specs.Reason.{submission, ownCases, arrivalCases, findingOf}
-use Rattle.rules.specs.Judging.{firstRefused, judgeOf}
+use Rattle.rules.specs.Judging.{lengthRefused, firstRefused, judgeOf}
 use Rattle.rules.specs.declared.pair.Pair.{Pair}
 use Rattle.rules.specs.declared.pair.Nexts.{Nexts}
 use Rattle.rules.specs.declared.reason.Finding.{Finding}
@@ -36,6 +36,10 @@ NextPairs d p s r = r ≡ held (nexts d p s)
 -- `first_refused`, of setting, the words' bytes, the map, and the list of permitted methods
 abbrev pub FirstRefuses : Setting → List ℕ → List ℕ → List ℕ → FirstRefused → Type 0
 FirstRefuses setting bytes map list r = r ≡ firstRefused (submission setting bytes list) map
+
+-- `no_such_lengths`, of how many bytes words, map and list have
+abbrev pub NoSuchLengths : ℕ → ℕ → ℕ → Bool → Type 0
+NoSuchLengths bytes map list r = r ≡ lengthRefused bytes map list
 
 -- `judge`, of level, SLI setting, the words' bytes, the map, and the list of permitted methods
 abbrev pub Judges : ℕ → Bool → List ℕ → List ℕ → List ℕ → Judgement → Type 0

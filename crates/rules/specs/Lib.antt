@@ -5,6 +5,7 @@ pub mod Next
 pub mod Reason
 pub mod Judging
 pub mod Path
+pub mod Search
 pub mod Answers
 pub mod Contracts
 pub mod Promises

@@ -30,11 +30,12 @@ use Rattle.channel.specs.declared.opening.Opened.{Opened}
 use Rattle.channel.specs.declared.putting.Put.{Put}
 use Rattle.channel.specs.declared.stepping.Stepped.{Stepped}
 use Rattle.word.specs.Lent.{Words, wordsOf}
-use Rattle.rules.specs.Reason.{Submission, submission}
+use Rattle.rules.specs.Reason.{Submission, submission, size, commandAt, flawAt}
 use Rattle.rules.specs.Judging.{settingOf}
-use Rattle.rules.specs.Path.{Bad, Exact}
+use Rattle.rules.specs.Path.{Next, Reached, Bad, Exact}
+use Rattle.rules.specs.Search.{Found, _found-from_, found, exactMap}
 use Rattle.rules.specs.Answers.{number, verdictRefusal, Accepts}
-use Rattle.rules.specs.Contracts.{FindsOwn, MarkedAmong, Arrives, NextPairs, FirstRefuses, Judges}
+use Rattle.rules.specs.Contracts.{FindsOwn, MarkedAmong, Arrives, NextPairs, FirstRefuses, NoSuchLengths, Judges}
 use Rattle.rules.specs.declared.pair.Pair.{Pair}
 use Rattle.rules.specs.declared.pair.Nexts.{Nexts}
 use Rattle.rules.specs.declared.reason.Finding.{Finding}
@@ -54,14 +55,22 @@ Permitted list subchannel m = permitBit list subchannel m ≡ 1
 
 -- Promise 1.
 
+-- R9: the bytes are no whole words, the map has not a byte for each, or the list has another length
+abbrev pub BadLengths : ℕ → ℕ → ℕ → Type 0
+BadLengths bytes map list = (bytes % 4 ≡ 0 → ⊥) ⊎ ((map ≡ bytes / 4 → ⊥) ⊎ (list ≡ 2048 → ⊥))
+
 -- R28: the gatekeeper's order, in plain terms. R1, R4, R8, R9
 abbrev pub judgePlain : ℕ → ℕ → Bool → List ℕ → List ℕ → List ℕ → List PlainCase
 judgePlain most level sli bytes map list =
     1 if (5 < level)
     ∷ 4 if ((sli ≡ true) × (level < 3))
     ∷ 8 if (4 * most < length bytes)
-    ∷ 9 if ((length bytes % 4 ≡ 0 → ⊥) ⊎ ((length map ≡ length bytes / 4 → ⊥) ⊎ (length list ≡ 2048 → ⊥)))
+    ∷ 9 if BadLengths (length bytes) (length map) (length list)
     ∷ []
+
+-- R9: `no_such_lengths` answers that
+abbrev pub Lengths : Type 0
+Lengths = (bytes map list : ℕ) (r : Bool) → NoSuchLengths bytes map list r → r ≡ true ↔ BadLengths bytes map list
 
 -- R21, R28: a refusal is given exactly when the table says: the answer is refusal n if and only if n's condition holds and none before
 -- it in the order does; and then there is no reason, and the count is 0 (G24).
@@ -93,6 +102,7 @@ pub record One : Type 0 where
       → FirstRefuses setting bytes map list a
       → FirstRefuses setting bytes map list b
       → a ≡ b
+  pub no-such-lengths : (bytes map list : ℕ) (a b : Bool) → NoSuchLengths bytes map list a → NoSuchLengths bytes map list b → a ≡ b
   pub judge : (level : ℕ) (sli : Bool) (bytes map list : List ℕ) (a b : Judgement) → Judges level sli bytes map list a → Judges level sli bytes map list b → a ≡ b
 
 -- the sum of the values below n
@@ -279,6 +289,10 @@ Complete =
 abbrev pub ExactIsOne : Type 0
 ExactIsOne = (x : Submission) (a b : List ℕ) → Exact x a → Exact x b → a ≡ b
 
+-- H8: and there is always one, whatever the words and however many.
+abbrev pub ExactMap : Type 0
+ExactMap = (x : Submission) → Exact x (exactMap x)
+
 -- H7: the other way round: accepted words have no bad place, whatever the map.
 abbrev pub NoneBad : Type 0
 NoneBad =
@@ -288,3 +302,51 @@ NoneBad =
     → (p : ℕ)
     → Bad (submission (settingOf level sli) bytes list) p
     → ⊥
+
+-- The search.
+
+-- H9: k is the number of place p in state s
+abbrev pub Numbers : ℕ → ℕ → Bool → Type 0
+Numbers k p false = k ≡ 2 * p
+Numbers k p true = k ≡ 2 * p + 1
+
+-- H2: the pair j leads to the pair k: it has none of the path rule's reasons, and k is a next pair of it, and not the end
+pub record Leads (x : Submission) (j k : ℕ) : Type 0 where
+  pub place : ℕ
+  pub state : Bool
+  pub numbered : Numbers j place state
+  pub next-place : ℕ
+  pub next-state : Bool
+  pub next-numbered : Numbers k next-place next-state
+  pub flawless : flawAt x place state ≡ none
+  pub next : Next (commandAt x place) place state next-place next-state
+  pub not-the-end : next-place ≡ size x → ⊥
+
+-- the i-th that is found, from 0
+abbrev pub nth : Submission → ℕ → Found
+nth x i = getD (found x) i (0 found-from 0)
+
+pub record FoundInOrder (x : Submission) : Type 0 where
+  -- H10: each is reached, and what is reached is one of them,
+  pub reached : (p : ℕ) (s : Bool) → Reached x p s ↔ ((i : ℕ) × (i < length (found x)) × Numbers (nth x i .pair) p s)
+  -- once
+  pub once : (i j : ℕ) → i < j → j < length (found x) → nth x i .pair ≡ nth x j .pair → ⊥
+  -- H9: the first is place 0 in main, from itself
+  pub first : 0 < length (found x) → (nth x 0 .pair ≡ 0) × (nth x 0 .from ≡ 0)
+  -- H10: any other is found from one before it, which leads to it
+  pub from : (i : ℕ) → 0 < i → i < length (found x) → (h : ℕ) × (h < i) × (nth x i .from ≡ nth x h .pair) × Leads x (nth x h .pair) (nth x i .pair)
+  -- H9: those from which it is found are taken in the order in which they were found
+  pub in-turn :
+      (i j h g : ℕ)
+      → 0 < i
+      → i < j
+      → j < length (found x)
+      → h < length (found x)
+      → g < length (found x)
+      → nth x i .from ≡ nth x h .pair
+      → nth x j .from ≡ nth x g .pair
+      → h ≤ g
+
+-- H9, H10: what is found is what is reached, in order, each from a pair before it
+abbrev pub Finds : Type 0
+Finds = (x : Submission) → FoundInOrder x

@@ -1,0 +1,4 @@
+pub mod Rewriting
+pub mod Outcomes
+pub mod Listed
+pub mod Promises
