@@ -20,6 +20,11 @@ bool is_help(int argc, char **argv)
     return argc == 2 && strcmp(argv[1], "--help") == 0;
 }
 
+void print_count(size_t count, const char *thing)
+{
+    printf("%zu %s%s", count, thing, count == 1 ? "" : "s");
+}
+
 /* A verdict that nobody could read is none. What is printed may first fail here, where it is written out. */
 int finish(int status)
 {

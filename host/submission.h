@@ -19,8 +19,8 @@ struct lent {
     size_t length;
 };
 
-/* The limits are the longest words, map and permit list that aren't refused for their length alone: the map's
- * is a quarter of the words'. */
+/* The limits are the longest words, map and permit list that aren't refused for their length alone: the
+ * map's is a quarter of the words'. */
 struct submission {
     uint32_t level;
     uint32_t sli;

@@ -32,10 +32,10 @@ static const char help[] =
     "  2  rejected: for a reason, at a place of the words\n"
     "  3  no verdict: wrong usage, a file that cannot be read, output that cannot be written\n";
 
-/* A file that goes beyond its room is cut, and has the verdict of the whole file: LEVEL and SLI come first and
- * look at no file; words above their limit are SIZE, however far above; and where they aren't, there are at
- * most MAP_LIMIT words, so that any map above its limit is not one byte a word and any permit list above its
- * limit is not 2,048 bytes, both LENGTH. */
+/* A file that goes beyond its room is cut, and has the verdict of the whole file: LEVEL and SLI come first
+ * and look at no file; words above their limit are SIZE, however far above; and where they aren't, there are
+ * at most MAP_LIMIT words, so that any map above its limit is not one byte a word and any permit list above
+ * its limit is not 2,048 bytes, both LENGTH. */
 static uint8_t words_room[WORDS_LIMIT + 1];
 static uint8_t map_room[MAP_LIMIT + 1];
 static uint8_t permit_room[PERMIT_LIMIT + 1];

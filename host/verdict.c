@@ -12,8 +12,9 @@ struct refusal {
     const char *meaning;
 };
 
-/* Those that a submission may get here. The header has others: no word is read at a mode that is given by the
- * author, and the rooms of the repair have entries for as many words as it takes. */
+/* Those that a submission may have. Of the others that the header names, MODE is a single word's, and ROOM
+ * can't be, as the repair is lent rooms for as many words as it takes. How many words SIZE is over, depends.
+ */
 static const struct refusal refusals[] = {
     [UPBORLIYA_REFUSAL_LEVEL] = {"LEVEL", "The level is above 5."},
     [UPBORLIYA_REFUSAL_SLI] = {"SLI", "SLI is enabled below level 3."},
@@ -54,11 +55,6 @@ enum {
 };
 
 /* ---- What was given ---- */
-
-void print_count(size_t count, const char *thing)
-{
-    printf("%zu %s%s", count, thing, count == 1 ? "" : "s");
-}
 
 static void print_size(const char *name, const struct lent *lent)
 {

@@ -3,7 +3,7 @@
 #define VERDICT_H
 
 #include <stdbool.h>
-#include <stddef.h>
+#include <stdint.h>
 
 #include "submission.h"
 #include "upborliya.h"
@@ -26,8 +26,5 @@ int print_refused(const struct submission *submission, unsigned refusal);
 
 /* Prints an answer that is a verdict. The status is its own. */
 int print_verdict(const struct submission *submission, upborliya_answer answer);
-
-/* Prints a number of things, each called so. */
-void print_count(size_t count, const char *thing);
 
 #endif

@@ -17,6 +17,12 @@ pub(crate) fn next_byte() -> u8 {
     (next_word() % 0x100) as u8
 }
 
+// An entry of a room: two words, the lower one first.
+pub(crate) fn next_entry() -> u64 {
+    let low = next_word() as u64;
+    next_word() as u64 * 0x1_0000_0000 + low
+}
+
 fn wide(byte: u8) -> u32
     ensures { λ r. ⌜ r < 256 ⌝ }
 {

@@ -23,6 +23,18 @@ pub(crate) fn fill(pool: &mut [u8], count: u32, byte: u8) {
     }
 }
 
+pub(crate) fn fill_entries(pool: &mut [u64], count: u32, entry: u64) {
+    for i in 0..count {
+        put_entry(pool, i as usize, entry);
+    }
+}
+
+fn put_entry(pool: &mut [u64], i: usize, entry: u64) {
+    if i < pool.len() {
+        pool[i] = entry;
+    }
+}
+
 // Reads bytes that a record gives with their places.
 pub(crate) fn load_listed(pool: &mut [u8], count: u32) {
     for _ in 0..count {

@@ -13,6 +13,29 @@ pub const LARGE_MAP: usize = 1_048_580;
 // The most bytes that a record lends as its list of permitted methods.
 pub const MOST_PERMIT: usize = 4096;
 
+// The most entries that a record lends as the list's room, and as the work room.
+pub const MOST_LIST: usize = 8200;
+
+pub const MOST_WORK: usize = 16_400;
+
+// How many entries are lent to the repair.
+pub struct Rooms {
+    pub list: u32,
+    pub work: u32,
+}
+
+// What is asked of the search; lengths in bytes, of the room in entries.
+pub struct Sought {
+    pub level: u32,
+    pub mode: u32,
+    pub sli: u32,
+    pub words: u32,
+    pub permit: u32,
+    pub fill: u8,
+    pub listed: u32,
+    pub room: u32,
+}
+
 // Lengths are in bytes. The list of permitted methods has `fill` where a record gives no other byte.
 pub struct Question {
     pub level: u32,
@@ -70,6 +93,74 @@ fn large_loaded(question: Question, words: &mut [u8], map: &mut [u8], permit: &m
     fill(permit, question.permit, question.fill);
     fill(words, question.words, next_byte());
     fill(map, question.map, next_byte());
+    true
+}
+
+// The rooms of a record of the repair.
+pub(crate) fn next_rooms() -> Rooms {
+    Rooms {
+        list: next_word(),
+        work: next_word(),
+    }
+}
+
+// At most 300 entries of the list's room and 600 of the work room, and the rest as for a judgement.
+pub(crate) fn repair_loaded(
+    question: Question,
+    listed: u32,
+    rooms: Rooms,
+    words: &mut [u8],
+    map: &mut [u8],
+    permit: &mut [u8],
+) -> bool {
+    if 64 < listed || !fits(question, 1024, 256) || 300 < rooms.list || 600 < rooms.work {
+        return false;
+    }
+    fill(permit, question.permit, question.fill);
+    load_listed(permit, listed);
+    load(words, question.words);
+    load(map, question.map);
+    true
+}
+
+// One byte is given for all the words, and one for the whole map.
+pub(crate) fn wide_loaded(
+    question: Question,
+    rooms: Rooms,
+    words: &mut [u8],
+    map: &mut [u8],
+    permit: &mut [u8],
+) -> bool {
+    if MOST_LIST < rooms.list as usize || MOST_WORK < rooms.work as usize {
+        return false;
+    }
+    large_loaded(question, words, map, permit)
+}
+
+pub(crate) fn next_sought() -> Sought {
+    Sought {
+        level: next_word(),
+        mode: next_word(),
+        sli: next_word(),
+        words: next_word(),
+        permit: next_word(),
+        fill: next_byte(),
+        listed: next_word(),
+        room: next_word(),
+    }
+}
+
+// As for the repair, without a map.
+pub(crate) fn search_loaded(sought: Sought, words: &mut [u8], permit: &mut [u8]) -> bool {
+    if 64 < sought.listed || 1024 < sought.words || 600 < sought.room {
+        return false;
+    }
+    if MOST_PERMIT < sought.permit as usize {
+        return false;
+    }
+    fill(permit, sought.permit, sought.fill);
+    load_listed(permit, sought.listed);
+    load(words, sought.words);
     true
 }
 

@@ -17,13 +17,19 @@ use Rattle.channel.proofs.Idling as channel-idling
 use Rattle.channel.proofs.Promises as channel
 use Rattle.channel.proofs.ReadAs as channel-read
 use Rattle.rules.proofs.ExactIsOne as rules-exact
+use Rattle.rules.proofs.ExactMap as rules-exact-map
+use Rattle.rules.proofs.Finds as rules-finds
 use Rattle.rules.proofs.Examples as rules-examples
 use Rattle.rules.proofs.Promises as rules
 use Rattle.rules.proofs.Reasons as rules-reasons
 use Rattle.rules.proofs.Sound as rules-sound
 use Rattle.rules.proofs.SoundMoves as rules-moves
+use Rattle.search.proofs.Promises as search
+use Rattle.repair.proofs.Promises as repair
 use Rattle.upborliya.proofs.GivesBack as upborliya-back
 use Rattle.upborliya.proofs.Promises as upborliya
+use Rattle.upborliya.proofs.ReadingBack as upborliya-reading
+use Rattle.upborliya.proofs.RepairBack as upborliya-repair
 use Rattle.listing.proofs.Promises as listing
 use Rattle.trace.proofs.Promises as trace
 use Rattle.promises.specs.Demands.{First, Second, Third, Demands}
@@ -35,6 +41,9 @@ first =
       channel-refused = channel.refused;
       channel-accepted = channel.accepted;
       gate-refused = rules.refused;
+      gate-lengths = rules.lengths;
+      search-refused = search.refused;
+      repair-refused = repair.refused;
       listing-refused = listing.refused;
       trace-refused = trace.refused;
       gate-submitted = rules.submitted;
@@ -43,12 +52,16 @@ first =
       gate-at-one-pair = rules-reasons.at-one-pair;
       counted = rules.counted;
       c-gives-back = upborliya-back.gives-back;
+      c-reading-back = upborliya-reading.reading-back;
+      c-repair-back = upborliya-repair.repair-back;
       word-one = word.one;
       event-one = event.one;
       puller-one = puller.one;
       pusher-one = pusher.one;
       channel-one = channel.one;
       gate-one = rules.one;
+      search-one = search.one;
+      repair-one = repair.one;
       c-one = upborliya.one;
       listing-one = listing.one;
       trace-one = trace.one;
@@ -119,7 +132,17 @@ third =
       read-as = channel-read.read-as;
       complete = rules.complete;
       exact-is-one = rules-exact.exact-is-one;
+      exact-map = rules-exact-map.exact-map;
       none-bad = rules.none-bad;
+      finds = rules-finds.finds;
+      search-tells = search.tells;
+      repair-mended = repair.mended;
+      repair-accepted = repair.accepted;
+      repair-again = repair.again;
+      repair-none-lost = repair.none-lost;
+      repair-listed = repair.listed;
+      repair-cleared = repair.cleared;
+      repair-lends = repair.lends;
       examples = rules-examples.examples;
     }
 

@@ -15,6 +15,8 @@ use Rattle.channel.specs.Promises as channel
 use Rattle.rules.specs.Promises as rules
 use Rattle.rules.specs.Reasons as reasons
 use Rattle.rules.specs.Examples as examples
+use Rattle.search.specs.Promises as search
+use Rattle.repair.specs.Promises as repair
 use Rattle.upborliya.specs.Promises as upborliya
 use Rattle.listing.specs.Promises as listing
 use Rattle.trace.specs.Promises as trace
@@ -26,6 +28,9 @@ pub record First : Type 0 where
   pub channel-refused : channel.Refused
   pub channel-accepted : channel.Accepted
   pub gate-refused : rules.Refused
+  pub gate-lengths : rules.Lengths
+  pub search-refused : search.Refused
+  pub repair-refused : repair.Refused
   pub listing-refused : listing.Refused
   pub trace-refused : trace.Refused
   -- and so is a reason of what is submitted, with its place; of the first refused pair also its state, and of one pair each part of the
@@ -34,9 +39,11 @@ pub record First : Type 0 where
   pub gate-reasons : reasons.Reasons
   pub gate-first-pairs : reasons.FirstPairs
   pub gate-at-one-pair : reasons.AtOnePair
-  -- the count of the answer is the number of permitted methods, and the number for C gives the answer back
+  -- the count of the answer is the number of permitted methods, and the numbers for C give the answers back
   pub counted : rules.Counted
   pub c-gives-back : upborliya.GivesBack
+  pub c-reading-back : upborliya.ReadingBack
+  pub c-repair-back : upborliya.RepairBack
   -- and no contract leaves two outcomes
   pub word-one : word.One
   pub event-one : event.One
@@ -44,6 +51,8 @@ pub record First : Type 0 where
   pub pusher-one : pusher.One
   pub channel-one : channel.One
   pub gate-one : rules.One
+  pub search-one : search.One
+  pub repair-one : repair.One
   pub c-one : upborliya.One
   pub listing-one : listing.One
   pub trace-one : trace.One
@@ -132,7 +141,20 @@ pub record Third : Type 0 where
   pub read-as : channel.ReadAs
   pub complete : rules.Complete
   pub exact-is-one : rules.ExactIsOne
+  pub exact-map : rules.ExactMap
   pub none-bad : rules.NoneBad
+  -- the pairs that are reached, as they are found one from another, and as the search's room tells them
+  pub finds : rules.Finds
+  pub search-tells : search.Tells
+  -- the author's map put right: the exact one comes out, and is accepted where any is; what it leaves of an accepted one; what changed is
+  -- listed, and the work room cleared; and by which names what is lent goes
+  pub repair-mended : repair.Mended
+  pub repair-accepted : repair.Accepted
+  pub repair-again : repair.Again
+  pub repair-none-lost : repair.NoneLost
+  pub repair-listed : repair.Listed
+  pub repair-cleared : repair.Cleared
+  pub repair-lends : repair.Lends
   -- small submissions that the second half speaks of, and one with a bad place
   pub examples : examples.Examples
 

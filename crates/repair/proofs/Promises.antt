@@ -3,7 +3,7 @@ use Prim.Native.Nat.{ℕ, zero, suc, _+_, _-_, _*_, _/_, _%_, _^_, _≤_, _<_}
 use mathlib.Core.Path.{_≡_, refl, sym, ap, _∙_}
 use mathlib.Core.Bool.{Bool, true, false, _||_}
 use mathlib.Core.List.{List, [], _∷_, _++_}
-use mathlib.Core.Logic.{_⊎_, ⊎-elim, _↔_}
+use mathlib.Core.Logic.{_⊎_, inl, inr, _↔_}
 use mathlib.Core.Option.{Option, none, some}
 use native.Mathlib.Omega.{arith}
 use lib.Dec.{eqb, ltb}
@@ -36,7 +36,7 @@ use Rattle.repair.specs.Contracts.{RepairLoan, toRepair, submitted, Repa
 use Rattle.repair.specs.Promises.{repairPlain, Refused, One, Lends, Mended, Accepted, Again, NoneLost, Listed, Wiped, Cleared}
 use Rattle.repair.specs.declared.repairing.Repaired.{Repaired}
 use Rattle.repair.specs.declared.repairing.Repaired.the-variants as repaired
-use Rattle.repair.proofs.Rewriting.{front-length, front-first, front-rest}
+use Rattle.repair.proofs.Rewriting.{below-most, front-length, front-first, front-rest}
 use Rattle.repair.proofs.Outcomes.{rooms-fit}
 use Rattle.repair.proofs.Listed.{says}
 
@@ -127,8 +127,7 @@ refused =
 pub one : One
 one level sli l a b map map′ list list′ work work′ h k =
     let x = submitted level sli l in
-    let same = one-outcome (h .answer) (k .answer) in
-    (
+    let same = one-outcome (h .answer) (k .answer) in (
       same,
       h .map-after ∙ ap (λ (r : Repaired). mapAfter r x (l .map)) same ∙ sym (k .map-after),
       h .list-after ∙ ap (λ (r : Repaired). listAfter r x (l .map) (l .list)) same ∙ sym (k .list-after),
@@ -143,8 +142,7 @@ accepted level sli l a map list work r bytes h e j =
     let f = did level sli l a map list work h e .fit in
     let whole = words-length (l .bytes) in
     let few : length (l .bytes) ≤ 4 * 1048576 = omega (arith, f .words, f .whole) in
-    let sized : Sized level sli (l .bytes) (l .permit) = record { level-fits = f .level-fits; sli-fits = f .sli-fits; words = few; whole = f .whole; permit = f .permit } in
-    (
+    let sized : Sized level sli (l .bytes) (l .permit) = record { level-fits = f .level-fits; sli-fits = f .sli-fits; words = few; whole = f .whole; permit = f .permit } in (
       none-bad level sli (l .bytes) map (l .permit) r j,
       λ fair. complete level sli (l .bytes) map (l .permit) r bytes j sized fair (mended level sli l a map list work h e) .0,
     )
@@ -213,3 +211,25 @@ cleared level sli l a map list work h e =
       zero = λ k less. front-first (listOf (λ k. 0) m) (l .work) k (omega arith) ∙ list-element (λ k. 0) m k less;
       rest = λ k more. front-rest (listOf (λ k. 0) m) (l .work) k (omega arith);
     })
+
+-- how large the numbers of an answer are
+pub few-changes : (level : ℕ) (sli : Bool) (l : RepairLoan) (a : Repaired) (map list work : List ℕ) → Repairs level sli l a map list work → (c : ℕ) → repairedValues a ≡ c ∷ [] → c ≤ 8192
+unfolding changes
+few-changes level sli l a map list work h c e =
+    let d = did level sli l a map list work h (valued a c e) in
+    let counted : c ≡ length (changes (l .map) (exactMap (submitted level sli l))) = let v = sym e ∙ d .values in cc in
+    let most = below-most (l .map) (exactMap (submitted level sli l)) (length (l .map)) in
+    omega (arith, d .fit .bytes-map, d .fit .words)
+
+abbrev AllSmall : List PlainCase → Type 0
+AllSmall [] = Unit {0}
+AllSmall (p ∷ ps) = (p .number < 2 ^ 8) × AllSmall ps
+
+first-small : (ps : List PlainCase) (n : ℕ) → AllSmall ps → FirstIs ps n → n < 2 ^ 8
+first-small [] n s f = absurd f
+first-small (p ∷ ps) n s (inl f) = omega (arith, s .0, f .1)
+first-small (p ∷ ps) n s (inr f) = first-small ps n (s .1) (f .1)
+
+pub small-refusal : (level : ℕ) (sli : Bool) (l : RepairLoan) (a : Repaired) (map list work : List ℕ) → Repairs level sli l a map list work → (k : ℕ) → repairedRefusal a ≡ some k → k < 2 ^ 8
+small-refusal level sli l a map list work h k e =
+    first-small (repairPlain level sli l) k (omega arith, (omega arith, (omega arith, (omega arith, (omega arith, tt))))) (refused .exactly level sli l a map list work h k .0 e)

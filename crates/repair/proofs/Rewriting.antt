@@ -129,90 +129,90 @@ module _ (map₀ list₀ work₀ : List ℕ) where
       (rooms : length map₀ ≤ length list₀)
       (pairs : length work₀ ≡ 2 * length map₀)
     where
-    -- the byte that is put, and the one that was there
-    same-mark : byteBy work p ≡ byteBy work₀ p
-    unfolding byteBy
-    same-mark = rw (h .kept (2 * p) (omega arith), h .kept (2 * p + 1) (omega arith))
+      -- the byte that is put, and the one that was there
+      same-mark : byteBy work p ≡ byteBy work₀ p
+      unfolding byteBy
+      same-mark = rw (h .kept (2 * p) (omega arith), h .kept (2 * p + 1) (omega arith))
 
-    now-byte : getD new p 0 ≡ byteBy work₀ p
-    now-byte = list-element (byteBy work₀) (length map₀) p there
+      now-byte : getD new p 0 ≡ byteBy work₀ p
+      now-byte = list-element (byteBy work₀) (length map₀) p there
 
-    pub room-there : count < length list
-    room-there = let most = below-most map₀ new p in omega (arith, h .counted, h .list-long)
+      pub room-there : count < length list
+      room-there = let most = below-most map₀ new p in omega (arith, h .counted, h .list-long)
 
-    module _ (map′ list′ work′ : List ℕ) (r : ℕ) (put : Puts map list work p count map′ list′ work′ r) where
-      abbrev before : List ℕ
-      before = changesBelow map₀ new p
+      module _ (map′ list′ work′ : List ℕ) (r : ℕ) (put : Puts map list work p count map′ list′ work′ r) where
+        abbrev before : List ℕ
+        before = changesBelow map₀ new p
 
-      abbrev entry : ℕ
-      entry = change p (getD map₀ p 0) (getD new p 0)
+        abbrev entry : ℕ
+        entry = change p (getD map₀ p 0) (getD new p 0)
 
-      same-test : eqb (getD map p 0) (byteBy work p) ≡ eqb (getD map₀ p 0) (getD new p 0)
-      same-test = rw (h .left p (omega arith), same-mark, now-byte)
+        same-test : eqb (getD map p 0) (byteBy work p) ≡ eqb (getD map₀ p 0) (getD new p 0)
+        same-test = rw (h .left p (omega arith), same-mark, now-byte)
 
-      one-more : changesBelow map₀ new (p + 1) ≡ choose (eqb (getD map₀ p 0) (getD new p 0)) before (before ++ (entry ∷ []))
-      unfolding changesBelow
-      one-more = rw (add-one p)
+        one-more : changesBelow map₀ new (p + 1) ≡ choose (eqb (getD map₀ p 0) (getD new p 0)) before (before ++ (entry ∷ []))
+        unfolding changesBelow
+        one-more = rw (add-one p)
 
-      map-there : p < length map
-      map-there = omega (arith, h .map-long)
+        map-there : p < length map
+        map-there = omega (arith, h .map-long)
 
-      done-more : (i : ℕ) → i < p + 1 → getD map′ i 0 ≡ byteBy work₀ i
-      done-more i l =
-          rw (put .mark)
-          (⊎-elim (λ (e : i ≡ p). rw e (getD-set-same map p (byteBy work p) 0 map-there ∙ same-mark))
-          (λ less. getD-set-other map p i (byteBy work p) 0 (λ (e : i ≡ p). omega arith) ∙ h .done i less)
-          (eq-or-lt-of-le {n = i} {m = p} (omega arith)))
+        done-more : (i : ℕ) → i < p + 1 → getD map′ i 0 ≡ byteBy work₀ i
+        done-more i l =
+            rw (put .mark)
+            (⊎-elim (λ (e : i ≡ p). rw e (getD-set-same map p (byteBy work p) 0 map-there ∙ same-mark))
+            (λ less. getD-set-other map p i (byteBy work p) 0 (λ (e : i ≡ p). omega arith) ∙ h .done i less)
+            (eq-or-lt-of-le {n = i} {m = p} (omega arith)))
 
-      left-more : (i : ℕ) → p + 1 ≤ i → getD map′ i 0 ≡ getD map₀ i 0
-      left-more i l = rw (put .mark) (getD-set-other map p i (byteBy work p) 0 (λ (e : i ≡ p). omega arith) ∙ h .left i (omega arith))
+        left-more : (i : ℕ) → p + 1 ≤ i → getD map′ i 0 ≡ getD map₀ i 0
+        left-more i l = rw (put .mark) (getD-set-other map p i (byteBy work p) 0 (λ (e : i ≡ p). omega arith) ∙ h .left i (omega arith))
 
-      abbrev once : List ℕ
-      once = set work (2 * p) 0
+        abbrev once : List ℕ
+        once = set work (2 * p) 0
 
-      cleared-more : (k : ℕ) → k < 2 * (p + 1) → getD work′ k 0 ≡ 0
-      cleared-more k l =
-          let long = length-set work (2 * p) 0 in
-          rw (put .cleared)
-          (⊎-elim (λ (e : k ≡ 2 * p + 1). rw e (getD-set-same once (2 * p + 1) 0 0 (omega (arith, h .work-long))))
-          (λ less.
-          getD-set-other once (2 * p + 1) k 0 0 (λ (e : k ≡ 2 * p + 1). omega arith)
-          ∙ ⊎-elim (λ (e : k ≡ 2 * p). rw e (getD-set-same work (2 * p) 0 0 (omega (arith, h .work-long))))
-          (λ lower. getD-set-other work (2 * p) k 0 0 (λ (e : k ≡ 2 * p). omega arith) ∙ h .cleared k lower)
-          (eq-or-lt-of-le {n = k} {m = 2 * p} (omega arith)))
-          (eq-or-lt-of-le {n = k} {m = 2 * p + 1} (omega arith)))
+        cleared-more : (k : ℕ) → k < 2 * (p + 1) → getD work′ k 0 ≡ 0
+        cleared-more k l =
+            let long = length-set work (2 * p) 0 in
+            rw (put .cleared)
+            (⊎-elim (λ (e : k ≡ 2 * p + 1). rw e (getD-set-same once (2 * p + 1) 0 0 (omega (arith, h .work-long))))
+            (λ less.
+            getD-set-other once (2 * p + 1) k 0 0 (λ (e : k ≡ 2 * p + 1). omega arith)
+            ∙ ⊎-elim (λ (e : k ≡ 2 * p). rw e (getD-set-same work (2 * p) 0 0 (omega (arith, h .work-long))))
+            (λ lower. getD-set-other work (2 * p) k 0 0 (λ (e : k ≡ 2 * p). omega arith) ∙ h .cleared k lower)
+            (eq-or-lt-of-le {n = k} {m = 2 * p} (omega arith)))
+            (eq-or-lt-of-le {n = k} {m = 2 * p + 1} (omega arith)))
 
-      kept-more : (k : ℕ) → 2 * (p + 1) ≤ k → getD work′ k 0 ≡ getD work₀ k 0
-      kept-more k l =
-          rw (put .cleared)
-          (getD-set-other once (2 * p + 1) k 0 0 (λ (e : k ≡ 2 * p + 1). omega arith)
-          ∙ getD-set-other work (2 * p) k 0 0 (λ (e : k ≡ 2 * p). omega arith)
-          ∙ h .kept k (omega arith))
+        kept-more : (k : ℕ) → 2 * (p + 1) ≤ k → getD work′ k 0 ≡ getD work₀ k 0
+        kept-more k l =
+            rw (put .cleared)
+            (getD-set-other once (2 * p + 1) k 0 0 (λ (e : k ≡ 2 * p + 1). omega arith)
+            ∙ getD-set-other work (2 * p) k 0 0 (λ (e : k ≡ 2 * p). omega arith)
+            ∙ h .kept k (omega arith))
 
-      listed-more : list′ ≡ atFront (changesBelow map₀ new (p + 1)) list₀
-      listed-more =
-          let few = below-most map₀ new p in
-          put .listed
-          ∙ rw (same-test, h .left p (omega arith), same-mark, ← now-byte, h .listed, h .counted, one-more)
-          (chosen-front (eqb (getD map₀ p 0) (getD new p 0)) before list₀ entry (omega arith))
+        listed-more : list′ ≡ atFront (changesBelow map₀ new (p + 1)) list₀
+        listed-more =
+            let few = below-most map₀ new p in
+            put .listed
+            ∙ rw (same-test, h .left p (omega arith), same-mark, ← now-byte, h .listed, h .counted, one-more)
+            (chosen-front (eqb (getD map₀ p 0) (getD new p 0)) before list₀ entry (omega arith))
 
-      counted-more : r ≡ length (changesBelow map₀ new (p + 1))
-      counted-more = put .counted ∙ rw (same-test, h .counted, one-more) (chosen-length (eqb (getD map₀ p 0) (getD new p 0)) before entry)
+        counted-more : r ≡ length (changesBelow map₀ new (p + 1))
+        counted-more = put .counted ∙ rw (same-test, h .counted, one-more) (chosen-length (eqb (getD map₀ p 0) (getD new p 0)) before entry)
 
-      pub passed-more : Passed (p + 1) map′ list′ work′ r
-      passed-more =
-          let few = below-most map₀ new (p + 1) in
-          record {
-            map-long = rw (put .mark) (length-set map p (byteBy work p) ∙ h .map-long);
-            list-long = rw listed-more (front-length (changesBelow map₀ new (p + 1)) list₀ (omega arith));
-            work-long = rw (put .cleared) (length-set once (2 * p + 1) 0 ∙ length-set work (2 * p) 0 ∙ h .work-long);
-            done = done-more;
-            left = left-more;
-            cleared = cleared-more;
-            kept = kept-more;
-            listed = listed-more;
-            counted = counted-more;
-          }
+        pub passed-more : Passed (p + 1) map′ list′ work′ r
+        passed-more =
+            let few = below-most map₀ new (p + 1) in
+            record {
+              map-long = rw (put .mark) (length-set map p (byteBy work p) ∙ h .map-long);
+              list-long = rw listed-more (front-length (changesBelow map₀ new (p + 1)) list₀ (omega arith));
+              work-long = rw (put .cleared) (length-set once (2 * p + 1) 0 ∙ length-set work (2 * p) 0 ∙ h .work-long);
+              done = done-more;
+              left = left-more;
+              cleared = cleared-more;
+              kept = kept-more;
+              listed = listed-more;
+              counted = counted-more;
+            }
 
   pub passed-all :
       length work₀ ≡ 2 * length map₀

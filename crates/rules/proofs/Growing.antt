@@ -105,35 +105,35 @@ module _
     (P : List Found → Type 0)
     (add : (fs : List Found) (q : ℕ) (t : Bool) → New x fs j q t → P fs → P (fs ++ (numberOf (q in-state t) found-from j ∷ [])))
   where
-  find-keeps :
-      flawAt x (placeOf j) (stateOf j) ≡ none
-      → (fs : List Found) (q : Pair)
-      → Next (commandAt x (placeOf j)) (placeOf j) (stateOf j) (q .place) (q .inside)
-      → P fs
-      → P (find (size x) j fs q)
-  unfolding find
-  find-keeps sound fs q n h =
-      by-test P (λ e. h)
-      (λ e.
-      let not = neither (eqb (q .place) (size x)) (isFound fs (numberOf q)) e in
-      add fs (q .place) (q .inside) (record { sound = sound; next = n; inner = eqb-false _ _ (not .0); unfound = not .1 }) h)
+    find-keeps :
+        flawAt x (placeOf j) (stateOf j) ≡ none
+        → (fs : List Found) (q : Pair)
+        → Next (commandAt x (placeOf j)) (placeOf j) (stateOf j) (q .place) (q .inside)
+        → P fs
+        → P (find (size x) j fs q)
+    unfolding find
+    find-keeps sound fs q n h =
+        by-test P (λ e. h)
+        (λ e.
+        let not = neither (eqb (q .place) (size x)) (isFound fs (numberOf q)) e in
+        add fs (q .place) (q .inside) (record { sound = sound; next = n; inner = eqb-false _ _ (not .0); unfound = not .1 }) h)
 
-  each-keeps :
-      flawAt x (placeOf j) (stateOf j) ≡ none
-      → (qs : List Pair)
-      → ((q : ℕ) (t : Bool) → OneOf qs q t → Next (commandAt x (placeOf j)) (placeOf j) (stateOf j) q t)
-      → (fs : List Found)
-      → P fs
-      → P (findEach (size x) j fs qs)
-  unfolding findEach
-  each-keeps sound [] n fs h = h
-  each-keeps sound (q ∷ qs) n fs h =
-      each-keeps sound qs (λ a t o. n a t (inr o)) (find (size x) j fs q) (find-keeps sound fs q (n (q .place) (q .inside) (inl (refl, refl))) h)
+    each-keeps :
+        flawAt x (placeOf j) (stateOf j) ≡ none
+        → (qs : List Pair)
+        → ((q : ℕ) (t : Bool) → OneOf qs q t → Next (commandAt x (placeOf j)) (placeOf j) (stateOf j) q t)
+        → (fs : List Found)
+        → P fs
+        → P (findEach (size x) j fs qs)
+    unfolding findEach
+    each-keeps sound [] n fs h = h
+    each-keeps sound (q ∷ qs) n fs h =
+        each-keeps sound qs (λ a t o. n a t (inr o)) (find (size x) j fs q) (find-keeps sound fs q (n (q .place) (q .inside) (inl (refl, refl))) h)
 
-  pub taking-keeps : (fs : List Found) → P fs → P (taking x j fs)
-  unfolding taking
-  taking-keeps fs h =
-      by-test P (λ e. h) (λ e. each-keeps (unfound-none (flawAt x (placeOf j) (stateOf j)) e) (nexts (commandAt x (placeOf j)) (placeOf j) (stateOf j)) (λ q t o. o) fs h)
+    pub taking-keeps : (fs : List Found) → P fs → P (taking x j fs)
+    unfolding taking
+    taking-keeps fs h =
+        by-test P (λ e. h) (λ e. each-keeps (unfound-none (flawAt x (placeOf j) (stateOf j)) e) (nexts (commandAt x (placeOf j)) (placeOf j) (stateOf j)) (λ q t o. o) fs h)
 
 -- the list only grows
 abbrev pub Begins : List Found → List Found → Type 0

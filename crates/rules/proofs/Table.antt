@@ -50,16 +50,15 @@ lengths-plain bytes map list =
 
 module _ (most level : ℕ) (sli : Bool) (bytes map list : List ℕ) where
   pub judge-agree : Agree (judgeCases most level sli bytes map list) (judgePlain most level sli bytes map list)
-  judge-agree =
-      (
-        refl,
-        less-plain 5 level,
-        (
-          refl,
-          and-plain sli (ltb level 3) Iff·rfl (less-plain level 3),
-          (refl, less-plain (4 * most) (length bytes), (refl, lengths-plain (length bytes) (length map) (length list), tt)),
-        ),
-      )
+  judge-agree = (
+    refl,
+    less-plain 5 level,
+    (
+      refl,
+      and-plain sli (ltb level 3) Iff·rfl (less-plain level 3),
+      (refl, less-plain (4 * most) (length bytes), (refl, lengths-plain (length bytes) (length map) (length list), tt)),
+    ),
+  )
 
   -- what the table does not refuse
   pub record Fits : Type 0 where

@@ -101,8 +101,7 @@ module _ (x : Submission) (room : List ℕ) (few : size x ≤ 1048576) (enough :
   reached-there : (k p : ℕ) (s : Bool) → Numbers k p s → p < size x → (getD exit k 0 % 2 ^ 32 ≡ 0 → ⊥) ↔ Reached x p s
   reached-there k p s n l =
       let at = number-there k p s n l in
-      let same = front k (at .0) in
-      (
+      let same = front k (at .0) in (
         λ ne. found-reached x p s (ap (isFound (found x)) (sym (at .1)) ∙ entry-found x few k (at .0) (λ z. ne (same-rest same z))),
         λ r z. false≢true (sym (entry-unfound x few k (at .0) (sym (ap (λ (v : ℕ). v % 2 ^ 32) same) ∙ z)) ∙ ap (isFound (found x)) (at .1) ∙ reached-found x r),
       )

@@ -74,7 +74,7 @@ unpacks (Refused m) count n s l e =
     )
 
 -- the setting that a number stands for
-switched : (n : ℕ) (b : Bool) → Switches n b → b ≡ on n
+pub switched : (n : ℕ) (b : Bool) → Switches n b → b ≡ on n
 switched n b s = go (eqb n 0) refl
   where
     go : (t : Bool) → eqb n 0 ≡ t → b ≡ not t

@@ -1,3 +1,5 @@
 pub mod FourParts
 pub mod GivesBack
+pub mod ReadingBack
+pub mod RepairBack
 pub mod Promises

@@ -7,10 +7,11 @@ use Rattle.gate_vectors.proofs.run.Tie as tie
 
 -- the arrays keep their lengths
 abbrev Inv-loop : tie.InvT-loop
-Inv-loop words₀ map₀ permit₀ tally₀ counter₀ words map permit tally counter = (length words ≡ 4194312) × (length map ≡ 1048580) × (length permit ≡ 4096)
+Inv-loop words₀ map₀ permit₀ list₀ work₀ tally₀ counter₀ words map permit list work tally counter =
+    (length words ≡ 4194312) × (length map ≡ 1048580) × (length permit ≡ 4096) × (length list ≡ 8200) × (length work ≡ 16400)
 
 abbrev μ-loop : tie.MeasureT-loop
-μ-loop words₀ map₀ permit₀ tally₀ counter₀ words map permit tally counter = 1000000 - counter
+μ-loop words₀ map₀ permit₀ list₀ work₀ tally₀ counter₀ words map permit list work tally counter = 1000000 - counter
 
 pub run-spec : {M : Type 1} → statement M
 run-spec =
@@ -20,6 +21,8 @@ run-spec =
     μ-loop
     (λ c κs. search needs)
     (λ c κs. search needs)
+    (λ c. search needs)
+    (λ c. search needs)
     (λ c. search needs)
     (λ c. search needs)
     (λ c. search needs)

@@ -24,8 +24,7 @@ rewrite-spec =
     (λ c κs.
     let at = c .before .before .before .before in
     let s = at .before .before .before .before in
-    let h = at .loop .inv .1 in
-    (
+    let h = at .loop .inv .1 in (
       omega (arith, s .pre .0),
       omega (arith, h .map-long),
       room-there (s .args .map .now) (s .args .list .now) (s .args .work .now) (at .loop .place) (at .loop .map) (at .loop .list) (at .loop .work) (at .loop .count) h (omega arith) (s .pre .1) (s .pre .2),
@@ -36,8 +35,7 @@ rewrite-spec =
     (λ c.
     let called = c .before .before .before .before .before .before in
     let at = called .before .before .before .before .before in
-    let s = at .before .before .before .before in
-    (
+    let s = at .before .before .before .before in (
       omega arith,
       passed-more (s .args .map .now) (s .args .list .now) (s .args .work .now) (at .loop .place) (at .loop .map) (at .loop .list) (at .loop .work) (at .loop .count) (at .loop .inv .1) (omega arith) (s .pre .1) (s .pre .2) _ _ _ _ (called .put .ensures),
     ))

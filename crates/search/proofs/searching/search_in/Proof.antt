@@ -58,8 +58,7 @@ search-in-spec =
     (λ c. omega arith)
     (λ c.
     let taken = c .before .before in
-    let at = taken .before .before .before in
-    (
+    let at = taken .before .before .before in (
       taken .take-nth .kept .1 .1 .1 .0 ∙ at .loop .inv .0,
       refl,
       omega arith,

@@ -90,8 +90,7 @@ take-nth-spec =
     let f = told .before .before in
     let e = from-flaw f in
     let s = start e in
-    let quiet = told .enum-told2 .given .1 in
-    (
+    let quiet = told .enum-told2 .given .1 in (
       omega (arith, s .pre .1),
       omega (arith, pair-within e, s .pre .0),
       s .pre .0,
