@@ -18,8 +18,6 @@ use question::LARGE_WORDS;
 use question::MOST_LIST;
 use question::MOST_PERMIT;
 use question::MOST_WORK;
-use question::Question;
-use question::Rooms;
 
 // More records than a file of vectors has: the run ends with the input.
 const MOST_RECORDS: u32 = 1_000_000;
@@ -108,14 +106,8 @@ fn run(
         got: answer::answering(0, 0, 0, 0),
     };
     for _ in 0..MOST_RECORDS {
-        tally = next_record(
-            tally,
-            &mut words,
-            &mut map,
-            &mut permit,
-            &mut list,
-            &mut work,
-        );
+        let record = next_record(&mut words, &mut map, &mut permit, &mut list, &mut work);
+        tally = tallied(tally, record);
         if tally.over {
             break;
         }
@@ -123,111 +115,105 @@ fn run(
     tally
 }
 
+// A record with the model's answer and the library's: its kind, 0 where the input or what can be understood
+// of it is over.
+struct Record {
+    kind: u32,
+    wanted: Answer,
+    got: Answer,
+}
+
 fn next_record(
-    tally: Tally,
     words: &mut [u8],
     map: &mut [u8],
     permit: &mut [u8],
     list: &mut [u64],
     work: &mut [u64],
-) -> Tally {
+) -> Record {
     let kind = input::next_word();
     match kind {
-        1 => judged(tally, kind, words, map, permit),
-        2 => judged(tally, kind, words, map, permit),
-        3 => repaired(tally, words, map, permit, list, work),
-        4 => repaired_wide(tally, words, map, permit, list, work),
-        5 => searched(tally, words, permit, work),
-        6 => read(tally),
-        _ => ended(tally, kind),
+        1 => judged(kind, words, map, permit),
+        2 => judged(kind, words, map, permit),
+        3 => repaired(kind, words, map, permit, list, work),
+        4 => repaired(kind, words, map, permit, list, work),
+        5 => searched(words, permit, work),
+        6 => read(),
+        _ => over(kind),
     }
 }
 
-fn judged(tally: Tally, kind: u32, words: &mut [u8], map: &mut [u8], permit: &mut [u8]) -> Tally {
-    let question = question::next_question();
-    if question::loaded(kind, question, words, map, permit) {
-        return held(counted(tally, kind), question, words, map, permit);
-    }
-    ended(tally, kind)
-}
-
-fn repaired(
-    tally: Tally,
-    words: &mut [u8],
-    map: &mut [u8],
-    permit: &mut [u8],
-    list: &mut [u64],
-    work: &mut [u64],
-) -> Tally {
-    let question = question::next_question();
-    let listed = input::next_word();
-    let rooms = question::next_rooms();
-    if !question::repair_loaded(question, listed, rooms, words, map, permit) {
-        return ended(tally, 3);
-    }
-    let packed = repairing::repaired(question, rooms, words, map, permit, list, work);
-    held_in_full(counted(tally, 3), packed, question, rooms, map, list, work)
-}
-
-fn held_in_full(
-    tally: Tally,
-    packed: u64,
-    question: Question,
-    rooms: Rooms,
-    map: &[u8],
-    list: &[u64],
-    work: &[u64],
-) -> Tally {
-    let wanted = repairing::next_wanted();
-    compared(
-        tally,
-        wanted,
-        repairing::held_in_full(packed, question, rooms, map, list, work),
-    )
-}
-
-fn repaired_wide(
-    tally: Tally,
-    words: &mut [u8],
-    map: &mut [u8],
-    permit: &mut [u8],
-    list: &mut [u64],
-    work: &mut [u64],
-) -> Tally {
-    let question = question::next_question();
-    let rooms = question::next_rooms();
-    if !question::wide_loaded(question, rooms, words, map, permit) {
-        return ended(tally, 4);
-    }
-    let packed = repairing::repaired(question, rooms, words, map, permit, list, work);
-    held_wide(counted(tally, 4), packed, question, map)
-}
-
-fn held_wide(tally: Tally, packed: u64, question: Question, map: &[u8]) -> Tally {
-    let wanted = repairing::next_wanted();
-    compared(tally, wanted, repairing::held_wide(packed, question, map))
-}
-
-fn searched(tally: Tally, words: &mut [u8], permit: &mut [u8], room: &mut [u64]) -> Tally {
-    let sought = question::next_sought();
-    if !question::search_loaded(sought, words, permit) {
-        return ended(tally, 5);
-    }
-    let wanted = repairing::next_wanted();
-    compared(
-        counted(tally, 5),
-        wanted,
-        searching::searched(sought, words, permit, room),
-    )
-}
-
-fn read(tally: Tally) -> Tally {
-    let got = reading::read();
-    compared(counted(tally, 6), reading::next_wanted(), got)
+fn compared(kind: u32, wanted: Answer, got: Answer) -> Record {
+    Record { kind, wanted, got }
 }
 
 // The input's end, which reads as kind 0, ends the run. So does a record that the format does not have:
 // nothing after it can be understood.
+fn over(kind: u32) -> Record {
+    let none = answer::answering(0, 0, 0, 0);
+    compared(0, none, answer::answering(kind, 0, 0, 0))
+}
+
+fn judged(kind: u32, words: &mut [u8], map: &mut [u8], permit: &mut [u8]) -> Record {
+    let question = question::next_question();
+    if question::loaded(kind, question, words, map, permit) {
+        let wanted = answer::next_answer();
+        return compared(
+            kind,
+            wanted,
+            answer::answered(question, wanted, words, map, permit),
+        );
+    }
+    over(kind)
+}
+
+fn repaired(
+    kind: u32,
+    words: &mut [u8],
+    map: &mut [u8],
+    permit: &mut [u8],
+    list: &mut [u64],
+    work: &mut [u64],
+) -> Record {
+    let asked = question::next_asked(kind);
+    if !question::asked_loaded(kind, asked, words, map, permit) {
+        return over(kind);
+    }
+    let packed = repairing::repaired(asked, words, map, permit, list, work);
+    let wanted = repairing::next_wanted();
+    compared(
+        kind,
+        wanted,
+        repairing::held(kind, packed, asked, map, list, work),
+    )
+}
+
+fn searched(words: &mut [u8], permit: &mut [u8], room: &mut [u64]) -> Record {
+    let sought = question::next_sought();
+    if !question::search_loaded(sought, words, permit) {
+        return over(5);
+    }
+    let wanted = repairing::next_wanted();
+    compared(5, wanted, searching::searched(sought, words, permit, room))
+}
+
+fn read() -> Record {
+    let got = reading::read();
+    compared(6, reading::next_wanted(), got)
+}
+
+// A record counted, and the library's answer held to the model's.
+fn tallied(tally: Tally, record: Record) -> Tally {
+    if record.kind == 0 {
+        return ended(tally, record.got.reason);
+    }
+    let next = counted(tally, record.kind);
+    if answer::same(record.wanted, record.got) {
+        return next;
+    }
+    missed(next, record.wanted, record.got)
+}
+
+// Where a record that was not understood ends the run, it is counted as such.
 fn ended(tally: Tally, kind: u32) -> Tally {
     let mut next = tally;
     next.over = true;
@@ -250,23 +236,6 @@ fn counted(tally: Tally, kind: u32) -> Tally {
         _ => next.read = more(tally.read),
     }
     next
-}
-
-// The library's answer held to the model's, which comes next on standard input.
-fn held(tally: Tally, question: Question, words: &[u8], map: &[u8], permit: &[u8]) -> Tally {
-    let wanted = answer::next_answer();
-    compared(
-        tally,
-        wanted,
-        answer::answered(question, wanted, words, map, permit),
-    )
-}
-
-fn compared(tally: Tally, wanted: Answer, got: Answer) -> Tally {
-    if answer::same(wanted, got) {
-        return tally;
-    }
-    missed(tally, wanted, got)
 }
 
 // One more wrong answer.

@@ -18,8 +18,11 @@ pub const MOST_LIST: usize = 8200;
 
 pub const MOST_WORK: usize = 16_400;
 
-// How many entries are lent to the repair.
-pub struct Rooms {
+// What is asked of the repair: beside the question, how many bytes of the list of permitted methods a
+// record gives with their places, and how many entries it lends as rooms.
+pub struct Asked {
+    pub question: Question,
+    pub listed: u32,
     pub list: u32,
     pub work: u32,
 }
@@ -74,7 +77,16 @@ pub(crate) fn loaded(
 
 // At most 1,024 bytes of words and 256 of the map are given, and 64 of the list with their places.
 fn judge_loaded(question: Question, words: &mut [u8], map: &mut [u8], permit: &mut [u8]) -> bool {
-    let listed = next_word();
+    given_loaded(question, next_word(), words, map, permit)
+}
+
+fn given_loaded(
+    question: Question,
+    listed: u32,
+    words: &mut [u8],
+    map: &mut [u8],
+    permit: &mut [u8],
+) -> bool {
     if 64 < listed || !fits(question, 1024, 256) {
         return false;
     }
@@ -96,45 +108,43 @@ fn large_loaded(question: Question, words: &mut [u8], map: &mut [u8], permit: &m
     true
 }
 
-// The rooms of a record of the repair.
-pub(crate) fn next_rooms() -> Rooms {
-    Rooms {
+// A wide record, kind 4, lists no bytes.
+pub(crate) fn next_asked(kind: u32) -> Asked {
+    Asked {
+        question: next_question(),
+        listed: next_listed(kind),
         list: next_word(),
         work: next_word(),
     }
 }
 
-// At most 300 entries of the list's room and 600 of the work room, and the rest as for a judgement.
-pub(crate) fn repair_loaded(
-    question: Question,
-    listed: u32,
-    rooms: Rooms,
-    words: &mut [u8],
-    map: &mut [u8],
-    permit: &mut [u8],
-) -> bool {
-    if 64 < listed || !fits(question, 1024, 256) || 300 < rooms.list || 600 < rooms.work {
-        return false;
+fn next_listed(kind: u32) -> u32 {
+    if kind == 4 {
+        return 0;
     }
-    fill(permit, question.permit, question.fill);
-    load_listed(permit, listed);
-    load(words, question.words);
-    load(map, question.map);
-    true
+    next_word()
 }
 
-// One byte is given for all the words, and one for the whole map.
-pub(crate) fn wide_loaded(
-    question: Question,
-    rooms: Rooms,
+// At most 300 entries of the list's room and 600 of the work room, and the rest as for a judgement; of a
+// wide record as many as the pools have.
+pub(crate) fn asked_loaded(
+    kind: u32,
+    asked: Asked,
     words: &mut [u8],
     map: &mut [u8],
     permit: &mut [u8],
 ) -> bool {
-    if MOST_LIST < rooms.list as usize || MOST_WORK < rooms.work as usize {
+    let question = asked.question;
+    if kind == 4 {
+        if MOST_LIST < asked.list as usize || MOST_WORK < asked.work as usize {
+            return false;
+        }
+        return large_loaded(question, words, map, permit);
+    }
+    if 300 < asked.list || 600 < asked.work {
         return false;
     }
-    large_loaded(question, words, map, permit)
+    given_loaded(question, asked.listed, words, map, permit)
 }
 
 pub(crate) fn next_sought() -> Sought {

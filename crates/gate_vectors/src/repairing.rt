@@ -8,39 +8,37 @@ use crate::content::uniform_differ;
 use crate::input::next_word;
 use crate::pool::fill_entries;
 use crate::pool::within;
-use crate::question::Question;
-use crate::question::Rooms;
+use crate::question::Asked;
 
 // The library's answer to a question about the first bytes and entries of each pool, which then hold what
 // it left.
 pub(crate) fn repaired(
-    question: Question,
-    rooms: Rooms,
+    asked: Asked,
     words: &[u8],
     map: &mut [u8],
     permit: &[u8],
     list: &mut [u64],
     work: &mut [u64],
 ) -> u64 {
-    fill_entries(list, rooms.list, UNTOUCHED);
-    fill_entries(work, rooms.work, UNTOUCHED);
-    asked(question, rooms, words, map, permit, list, work)
+    fill_entries(list, asked.list, UNTOUCHED);
+    fill_entries(work, asked.work, UNTOUCHED);
+    answered(asked, words, map, permit, list, work)
 }
 
-fn asked(
-    question: Question,
-    rooms: Rooms,
+fn answered(
+    asked: Asked,
     words: &[u8],
     map: &mut [u8],
     permit: &[u8],
     list: &mut [u64],
     work: &mut [u64],
 ) -> u64 {
+    let question = asked.question;
     let w = within(question.words as usize, words.len());
     let m = within(question.map as usize, map.len());
     let p = within(question.permit as usize, permit.len());
-    let l = within(rooms.list as usize, list.len());
-    let k = within(rooms.work as usize, work.len());
+    let l = within(asked.list as usize, list.len());
+    let k = within(asked.work as usize, work.len());
     upborliya::upborliya_repair(
         question.level,
         question.sli,
@@ -80,21 +78,20 @@ pub(crate) fn got(packed: u64, map: u32, list: u32, work: u32) -> Answer {
     answering(0, refusal, count, 0)
 }
 
-// Held to what a record gives in full.
-pub(crate) fn held_in_full(
+// Held to what a record gives: all of it, or of a wide one, kind 4, the map alone.
+pub(crate) fn held(
+    kind: u32,
     packed: u64,
-    question: Question,
-    rooms: Rooms,
+    asked: Asked,
     map: &[u8],
     list: &[u64],
     work: &[u64],
 ) -> Answer {
-    let marks = bytes_differ(map, question.map);
-    let listed = entries_differ(list, rooms.list);
-    got(packed, marks, listed, entries_differ(work, rooms.work))
-}
-
-// Held to what a wide record gives, which says nothing of the rooms.
-pub(crate) fn held_wide(packed: u64, question: Question, map: &[u8]) -> Answer {
-    got(packed, uniform_differ(map, question.map), 0, 0)
+    let bytes = asked.question.map;
+    if kind == 4 {
+        return got(packed, uniform_differ(map, bytes), 0, 0);
+    }
+    let marks = bytes_differ(map, bytes);
+    let listed = entries_differ(list, asked.list);
+    got(packed, marks, listed, entries_differ(work, asked.work))
 }

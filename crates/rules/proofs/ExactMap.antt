@@ -19,8 +19,8 @@ use Rattle.rules.specs.Next.{_in-state_, nexts}
 use Rattle.rules.specs.Reason.{Submission, size, commandAt, flawAt}
 use Rattle.rules.specs.Judging.{placeOf, stateOf}
 use Rattle.rules.specs.Path.{OneOf, Next, Reached, origin, onward, Exact}
-use Rattle.rules.specs.Search.{numberOf, Found, _found-from_, isFound, find, findEach, taking, takeNth, foundAfter, found, listOf, exactByte, exactMap}
-use Rattle.rules.specs.Promises.{sum, ExactMap}
+use Rattle.rules.specs.Search.{numberOf, Found, _found-from_, isFound, foundBelow, find, findEach, taking, takeNth, foundAfter, found, listOf, exactByte, exactMap}
+use Rattle.rules.specs.Promises.{ExactMap}
 use Rattle.rules.specs.declared.pair.Pair.{Pair}
 use Rattle.rules.proofs.Complete.{next-within, reached-within}
 use Rattle.rules.proofs.Growing.{place-of, state-of, number-is, found-append, found-more, nth-found, found-nth, New, taking-keeps, Begins, taking-begins, begins-found, taking-found, after-keeps}
@@ -40,64 +40,59 @@ list-element f (suc n) i l =
     (λ m. List·getD-append (listOf f n) (f n ∷ []) 0 i (omega arith) ∙ list-element f n i m)
     (eq-or-lt-of-le {n = i} {m = n} (omega arith))
 
--- values of which one is one more have a sum that is
-sum-same : (f g : ℕ → ℕ) (n : ℕ) → ((k : ℕ) → k < n → g k ≡ f k) → sum g n ≡ sum f n
-unfolding sum
-sum-same f g zero h = refl
-sum-same f g (suc n) h = rw (sum-same f g n (λ k l. h k (omega arith)), h n (omega arith))
+-- how many numbers below m are found of two lists: as many, or one more of the second
+as-many : (fs gs : List Found) (m : ℕ) → ((k : ℕ) → k < m → isFound gs k ≡ isFound fs k) → foundBelow gs m ≡ foundBelow fs m
+unfolding foundBelow
+as-many fs gs zero h = refl
+as-many fs gs (suc m) h = rw (as-many fs gs m (λ k l. h k (omega arith)), h m (omega arith))
 
-sum-one-more : (f g : ℕ → ℕ) (n i : ℕ) → i < n → g i ≡ f i + 1 → ((k : ℕ) → k < n → (k ≡ i → ⊥) → g k ≡ f k) → sum g n ≡ sum f n + 1
-unfolding sum
-sum-one-more f g zero i l e h = absurd (omega arith)
-sum-one-more f g (suc n) i l e h =
+one-more :
+    (fs gs : List Found) (m i : ℕ)
+    → i < m
+    → isFound fs i ≡ false
+    → isFound gs i ≡ true
+    → ((k : ℕ) → k < m → (k ≡ i → ⊥) → isFound gs k ≡ isFound fs k)
+    → foundBelow gs m ≡ foundBelow fs m + 1
+unfolding foundBelow choose
+one-more fs gs zero i l e f h = absurd (omega arith)
+one-more fs gs (suc m) i l e f h =
     ⊎-elim
-    (λ (q : i ≡ n).
-    let low = sum-same f g n (λ k m. h k (omega arith) (λ z. omega arith)) in
-    let top : g n ≡ f n + 1 = rw q at e in
-    omega arith)
-    (λ m.
-    let low = sum-one-more f g n i m e (λ k a b. h k (omega arith) b) in
-    let top = h n (omega arith) (λ z. omega arith) in
-    omega arith)
-    (eq-or-lt-of-le {n = i} {m = n} (omega arith))
+    (λ (q : i ≡ m).
+    let low = as-many fs gs m (λ k n. h k (omega arith) (λ z. omega arith)) in
+    rw (sym q, e, f, q) (omega arith))
+    (λ n.
+    let low = one-more fs gs m i n e f (λ k a b. h k (omega arith) b) in
+    rw (h m (omega arith) (λ z. omega arith)) (omega arith))
+    (eq-or-lt-of-le {n = i} {m = m} (omega arith))
 
-sum-none : (f : ℕ → ℕ) (n : ℕ) → ((k : ℕ) → f k ≡ 0) → 0 ≡ sum f n
-unfolding sum
-sum-none f zero h = refl
-sum-none f (suc n) h = let low = sum-none f n h in let top = h n in omega arith
-
-sum-most : (f : ℕ → ℕ) (n : ℕ) → ((k : ℕ) → f k ≤ 1) → sum f n ≤ n
-unfolding sum
-sum-most f zero h = omega arith
-sum-most f (suc n) h = let low = sum-most f n h in let top = h n in omega arith
-
--- 1 where a pair is found
-abbrev pub once : List Found → ℕ → ℕ
-once fs k = choose (isFound fs k) 1 0
-
-once-most : (fs : List Found) (k : ℕ) → once fs k ≤ 1
-once-most fs k = by-test (λ (n : ℕ). n ≤ 1) (λ e. omega arith) (λ e. omega arith)
+below-most : (fs : List Found) (m : ℕ) → foundBelow fs m ≤ m
+unfolding foundBelow
+below-most fs zero = omega arith
+below-most fs (suc m) =
+    let low = below-most fs m in
+    by-test (λ (n : ℕ). foundBelow fs m + n ≤ suc m) (λ e. omega arith) (λ e. omega arith)
 
 -- a list is as long as there are pairs below m that are found in it, so that it holds each once; and so at most m
 abbrev pub Counts : ℕ → List Found → Type 0
-Counts m fs = length fs ≡ sum (once fs) m
+Counts m fs = length fs ≡ foundBelow fs m
 
 pub counts-none : (m : ℕ) → Counts m []
-unfolding isFound choose
-counts-none m = sum-none (once []) m (λ k. refl)
+unfolding foundBelow isFound choose
+counts-none zero = refl
+counts-none (suc m) = let low = counts-none m in omega arith
 
 pub counts-more : (m : ℕ) (fs : List Found) (k j : ℕ) → k < m → isFound fs k ≡ false → Counts m fs → Counts m (fs ++ (k found-from j ∷ []))
-unfolding isFound choose
+unfolding isFound
 counts-more m fs k j l e h =
     let hs = fs ++ (k found-from j ∷ []) in
-    let here : once hs k ≡ once fs k + 1 = rw (found-append fs (k found-from j ∷ []) k, e, eq-eqb k k refl) in
-    let others : (i : ℕ) → i < m → (i ≡ k → ⊥) → once hs i ≡ once fs i =
+    let here : isFound hs k ≡ true = rw (found-append fs (k found-from j ∷ []) k, e, eq-eqb k k refl) in
+    let others : (i : ℕ) → i < m → (i ≡ k → ⊥) → isFound hs i ≡ isFound fs i =
     λ i l ne. rw (found-append fs (k found-from j ∷ []) i, ne-eqb k i (λ z. ne (sym z)), or-false (isFound fs i)) in
-    let more = sum-one-more (once fs) (once hs) m k l here others in
+    let more = one-more fs hs m k l e here others in
     rw (length-append fs (k found-from j ∷ [])) (omega arith)
 
 pub counts-most : (m : ℕ) (fs : List Found) → Counts m fs → length fs ≤ m
-counts-most m fs h = let most = sum-most (once fs) m (once-most fs) in omega arith
+counts-most m fs h = let most = below-most fs m in omega arith
 
 module _ (x : Submission) where
   -- each pair that is found is reached, and they are counted

@@ -31,6 +31,11 @@ unfoldable pub isFound : List Found → ℕ → Bool
 isFound [] k = false
 isFound (f ∷ fs) k = eqb (f .pair) k || isFound fs k
 
+-- how many of the numbers below m are those of pairs that were found
+unfoldable pub foundBelow : List Found → ℕ → ℕ
+foundBelow fs zero = 0
+foundBelow fs (suc m) = foundBelow fs m + choose (isFound fs m) 1 0
+
 -- H9: a next pair of the pair j is found, unless it is the end, behind n words, or was found before; and next pairs are, in turn
 unfoldable pub find : ℕ → ℕ → List Found → Pair → List Found
 find n j fs q = choose (eqb (q .place) n || isFound fs (numberOf q)) fs (fs ++ (numberOf q found-from j ∷ []))

@@ -7,8 +7,7 @@ use lib.ListN.{length, getD, drop}
 use Rattle.word.specs.First.{choose, Case, first, _when_}
 use Rattle.word.specs.Setting.{SIZE, ROOM, refusedOr}
 use Rattle.rules.specs.Reason.{Submission, size}
-use Rattle.rules.specs.Search.{Found, _found-from_, isFound, found, listOf}
-use Rattle.rules.specs.Promises.{sum}
+use Rattle.rules.specs.Search.{Found, _found-from_, foundBelow, found, listOf}
 use Rattle.search.specs.declared.searching.Searched.{Searched}
 use Rattle.search.specs.declared.searching.Searched.the-variants.{Pairs, Refused}
 
@@ -51,4 +50,4 @@ pub record Holds (fs : List Found) (room : List ℕ) (count : ℕ) : Type 0 wher
   pub counted : count ≡ length fs
   pub pair-within : (i : ℕ) → i < length fs → getD fs i (0 found-from 0) .pair < length room
   pub from-within : (i : ℕ) → i < length fs → getD fs i (0 found-from 0) .from < length room
-  pub each-once : length fs ≡ sum (λ k. choose (isFound fs k) 1 0) (length room)
+  pub each-once : length fs ≡ foundBelow fs (length room)

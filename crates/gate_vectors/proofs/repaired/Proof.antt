@@ -3,6 +3,13 @@ use borrow.Author.Needs.{needs}
 use Rattle.gate_vectors.proofs.repaired.Statement.{statement}
 use Rattle.gate_vectors.proofs.repaired.Tie as tie
 
+-- the pools keep their lengths: where they were loaded, and where the library was asked
+abbrev asked : tie.After-compared → tie.After-repaired
+asked c = c .before .before .before .before .before .before .before .before .before .before .before .before
+
+abbrev loaded : tie.After-compared → tie.After-asked-loaded
+loaded c = asked c .before .before .before .before .before .before .before .before .before .before .before .before .before
+
 pub repaired-spec : {M : Type 1} → statement M
 repaired-spec =
     tie.close
@@ -10,8 +17,6 @@ repaired-spec =
     (λ c κs. search needs)
     (λ c κs. search needs)
     (λ c κs. search needs)
-    (λ c κs. search needs)
-    (λ c κs. search needs)
     (λ c. search needs)
     (λ c. search needs)
     (λ c. search needs)
@@ -19,9 +24,10 @@ repaired-spec =
     (λ c κs. search needs)
     (λ c κs. search needs)
     (λ c κs. search needs)
-    (λ c. c .before .before .before .before .before .before .before .before .before .before .before .before .before .before .before .before .before .before .before .before .before .before .before .before .repair-loaded .kept .1 .1 .1 .0)
-    (λ c. c .before .before .before .before .before .before .before .before .before .before .before .repaired .kept .1 .1 .1 .0 ∙ c .before .before .before .before .before .before .before .before .before .before .before .before .before .before .before .before .before .before .before .before .before .before .before .before .repair-loaded .kept .1 .1 .1 .1 .0)
-    (λ c. c .before .before .before .before .before .before .before .before .before .before .before .before .before .before .before .before .before .before .before .before .before .before .before .before .repair-loaded .kept .1 .1 .1 .1 .1 .0)
+    (λ c κs. search needs)
+    (λ c. loaded c .asked-loaded .kept .1 .1 .0)
+    (λ c. asked c .repaired .kept .1 .1 .0 ∙ loaded c .asked-loaded .kept .1 .1 .1 .0)
+    (λ c. loaded c .asked-loaded .kept .1 .1 .1 .1 .0)
     (λ c. search needs)
     (λ c. search needs)
     (λ c. search needs))

@@ -2,11 +2,11 @@ use mathlib.Core.Path.{sym}
 use native.Mathlib.Omega.{arith}
 use lib.Seq.{length-take-le}
 use borrow.Author.Needs.{needs}
-use Rattle.gate_vectors.proofs.repairing.asked.Statement.{statement}
-use Rattle.gate_vectors.proofs.repairing.asked.Tie as tie
+use Rattle.gate_vectors.proofs.repairing.answered.Statement.{statement}
+use Rattle.gate_vectors.proofs.repairing.answered.Tie as tie
 
-pub asked-spec : {M : Type 1} → statement M
-asked-spec =
+pub answered-spec : {M : Type 1} → statement M
+answered-spec =
     tie.close
     (tie.spec
     (λ c. search needs)
