@@ -1,16 +1,13 @@
 -- `Listed`: the list says what changed, and nothing else. Assumes nothing.
 use Prim.Native.Nat.{ℕ, zero, suc, _/_, _%_, _^_, _≤_, _<_}
-use mathlib.Core.Path.{_≡_, refl, sym, ap, _∙_}
-use mathlib.Core.Bool.{Bool, true, false}
+use mathlib.Core.Path.{_≡_, refl, ap, _∙_}
 use mathlib.Core.List.{List, [], _∷_, _++_}
 use mathlib.Core.Logic.{_⊎_, ⊎-elim}
 use native.Mathlib.Nat.{eq-or-lt-of-le}
 use native.Mathlib.Omega.{arith}
-use lib.Dec.{eqb}
 use lib.ListN.{length, getD, length-append, List·getD-append}
 use lib.Seq.{getD-append-seam}
 use borrow.Author.Tests.{eqb-true, eqb-false}
-use Rattle.word.specs.First.{choose}
 use Rattle.word.proofs.First.{by-test}
 use Rattle.repair.specs.Changes.{change, changesBelow, changes, atFront}
 use Rattle.repair.specs.Promises.{placeIn, oldIn, newIn, Says}

@@ -1,24 +1,23 @@
 -- The promises, each proved under its name; what `Listed` rests on stands in the file of its name. Assumes nothing.
-use Prim.Native.Nat.{ℕ, zero, suc, _+_, _-_, _*_, _/_, _%_, _^_, _≤_, _<_}
+use Prim.Native.Nat.{ℕ, zero, suc, _-_, _*_, _/_, _^_, _≤_, _<_}
 use mathlib.Core.Path.{_≡_, refl, sym, ap, _∙_}
-use mathlib.Core.Bool.{Bool, true, false, _||_}
-use mathlib.Core.List.{List, [], _∷_, _++_}
-use mathlib.Core.Logic.{_⊎_, inl, inr, _↔_}
-use mathlib.Core.Option.{Option, none, some}
+use mathlib.Core.Bool.{Bool, true, false}
+use mathlib.Core.List.{List, [], _∷_}
+use mathlib.Core.Logic.{_⊎_, inl, inr}
+use mathlib.Core.Option.{none, some}
 use native.Mathlib.Omega.{arith}
-use lib.Dec.{eqb, ltb}
-use lib.ListN.{length, getD, drop, List·getD-append, List·getD-eq-default}
-use lib.Seq.{getD-append-add, getD-drop}
+use lib.Dec.{ltb}
+use lib.ListN.{length, getD, List·getD-eq-default}
 use borrow.Author.Tests.{eq-eqb, ltb-true, ltb-false}
-use Rattle.word.specs.First.{choose, Case, PlainCase, _when_, _if_, first, FirstIs}
+use Rattle.word.specs.First.{Case, PlainCase, _when_, _if_, first, FirstIs}
 use Rattle.word.specs.Setting.{ROOM, refusedOr}
 use Rattle.word.specs.declared.setting.Refusal.{Refusal}
 use Rattle.word.proofs.First.{choose-true, Agree, append-none, none-fails, one-outcome}
 use Rattle.word.proofs.Tests.{or-plain, less-plain}
 use Rattle.word.proofs.Settings.{told-first, told-plain}
 use Rattle.word.proofs.Bytes.{words-length}
-use Rattle.rules.specs.Reason.{Submission, submission, size}
-use Rattle.rules.specs.Judging.{judgeCases, settingOf}
+use Rattle.rules.specs.Reason.{Submission, size}
+use Rattle.rules.specs.Judging.{judgeCases}
 use Rattle.rules.specs.Path.{Exact, Reached}
 use Rattle.rules.specs.Search.{listOf, exactMap}
 use Rattle.rules.specs.Promises.{judgePlain, Sized}
@@ -33,7 +32,7 @@ use Rattle.repair.specs.Changes.{changesBelow, changes, atFront}
 use Rattle.repair.specs.Repairing.{roomRefused, repairCases, repairOf, mapAfter, listAfter, workAfter}
 use Rattle.repair.specs.Answers.{repairedRefusal, repairedValues}
 use Rattle.repair.specs.Contracts.{RepairLoan, toRepair, submitted, Repairs}
-use Rattle.repair.specs.Promises.{repairPlain, Refused, One, Lends, Mended, Accepted, Again, NoneLost, Listed, Wiped, Cleared}
+use Rattle.repair.specs.Promises.{repairPlain, Refused, One, Lends, Mended, Accepted, Again, NoneLost, Listed, Cleared}
 use Rattle.repair.specs.declared.repairing.Repaired.{Repaired}
 use Rattle.repair.specs.declared.repairing.Repaired.the-variants as repaired
 use Rattle.repair.proofs.Rewriting.{below-most, front-length, front-first, front-rest}

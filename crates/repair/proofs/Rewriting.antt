@@ -1,5 +1,5 @@
 -- How map, list and work room are rewritten, place by place. Assumes nothing.
-use Prim.Native.Nat.{ℕ, zero, suc, _+_, _-_, _*_, _%_, _^_, _≤_, _<_}
+use Prim.Native.Nat.{ℕ, zero, suc, _+_, _-_, _*_, _≤_, _<_}
 use mathlib.Core.Path.{_≡_, refl, sym, ap, _∙_}
 use mathlib.Core.Bool.{Bool, true, false}
 use mathlib.Core.List.{List, [], _∷_, _++_, append-assoc}
@@ -12,7 +12,7 @@ use lib.ListN.{length, getD, drop, set, length-append, length-drop, length-set, 
 use lib.Seq.{drop-cons, set-append-seam, set-getD, getD-append-add, getD-drop, getD-set-same, getD-set-other, ext-getD}
 use borrow.Author.Tests.{eq-eqb, ne-eqb}
 use Rattle.word.specs.First.{choose}
-use Rattle.word.proofs.First.{by-test, choose-true, choose-false}
+use Rattle.word.proofs.First.{by-test}
 use Rattle.rules.specs.Search.{listOf}
 use Rattle.rules.proofs.ExactMap.{list-length, list-element}
 use Rattle.repair.specs.Changes.{change, changesBelow, changes, atFront, byteBy, Puts, Rewrites}

@@ -1,29 +1,26 @@
 -- `ExactMap`: what is found is what is reached, so that the map that marks it is exact. Assumes nothing.
 use Prim.Native.Nat.{ℕ, zero, suc, _+_, _*_, _/_, _%_, _≤_, _<_}
 use mathlib.Core.Path.{_≡_, refl, sym, ap, _∙_}
-use mathlib.Core.Bool.{Bool, true, false, _||_, or-false, false≢true}
+use mathlib.Core.Bool.{Bool, true, false, or-false, false≢true}
 use mathlib.Core.List.{List, [], _∷_, _++_}
 use mathlib.Core.Logic.{⊎-elim, _↔_, Iff·trans}
 use mathlib.Core.Option.{none}
 use native.Mathlib.Nat.{eq-or-lt-of-le}
 use native.Mathlib.Omega.{arith}
-use lib.Dec.{eqb, ltb}
 use lib.ListN.{length, getD, length-append, List·getD-append}
 use lib.Seq.{getD-append-seam}
-use borrow.Author.Tests.{eqb-true, eqb-false, eq-eqb, ne-eqb, ltb-true, ltb-false}
+use borrow.Author.Tests.{eqb-false, eq-eqb, ne-eqb}
 use Rattle.word.specs.First.{choose}
-use Rattle.word.specs.Lowest.{found?}
-use Rattle.word.proofs.First.{by-test, choose-true, choose-false}
+use Rattle.word.proofs.First.{by-test, choose-false}
 use Rattle.rules.specs.Map.{main, inside}
-use Rattle.rules.specs.Next.{_in-state_, nexts}
+use Rattle.rules.specs.Next.{_in-state_}
 use Rattle.rules.specs.Reason.{Submission, size, commandAt, flawAt}
 use Rattle.rules.specs.Judging.{placeOf, stateOf}
-use Rattle.rules.specs.Path.{OneOf, Next, Reached, origin, onward, Exact}
-use Rattle.rules.specs.Search.{numberOf, Found, _found-from_, isFound, foundBelow, find, findEach, taking, takeNth, foundAfter, found, listOf, exactByte, exactMap}
+use Rattle.rules.specs.Path.{Next, Reached, origin, onward}
+use Rattle.rules.specs.Search.{numberOf, Found, _found-from_, isFound, foundBelow, taking, foundAfter, found, listOf, exactByte, exactMap}
 use Rattle.rules.specs.Promises.{ExactMap}
-use Rattle.rules.specs.declared.pair.Pair.{Pair}
-use Rattle.rules.proofs.Complete.{next-within, reached-within}
-use Rattle.rules.proofs.Growing.{place-of, state-of, number-is, found-append, found-more, nth-found, found-nth, New, taking-keeps, Begins, taking-begins, begins-found, taking-found, after-keeps}
+use Rattle.rules.proofs.Complete.{next-within}
+use Rattle.rules.proofs.Growing.{place-of, state-of, found-append, found-more, nth-found, found-nth, New, taking-keeps, taking-begins, begins-found, taking-found, after-keeps}
 
 -- a list by its elements
 pub list-length : (f : ℕ → ℕ) (n : ℕ) → length (listOf f n) ≡ n

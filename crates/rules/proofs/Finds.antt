@@ -15,9 +15,8 @@ use Rattle.word.proofs.First.{by-test}
 use Rattle.rules.specs.Next.{_in-state_}
 use Rattle.rules.specs.Reason.{Submission, size}
 use Rattle.rules.specs.Judging.{placeOf, stateOf}
-use Rattle.rules.specs.Path.{Reached}
 use Rattle.rules.specs.Search.{numberOf, Found, _found-from_, isFound, taking, foundAfter, found}
-use Rattle.rules.specs.Promises.{Numbers, Leads, FoundInOrder, Finds}
+use Rattle.rules.specs.Promises.{Numbers, Leads, Finds}
 use Rattle.rules.proofs.Growing.{nth-found, found-nth, New, taking-keeps, Begins, begins-more, after-keeps}
 use Rattle.rules.proofs.ExactMap.{reached-found, found-reached}
 

@@ -1,17 +1,17 @@
 -- How the list of what is found grows: a pair at a time, at its end, each a next pair that was not found before. Assumes nothing.
 use Prim.Native.Nat.{ℕ, zero, suc, _+_, _*_, _/_, _%_, _≤_, _<_}
-use mathlib.Core.Path.{_≡_, refl, sym, ap, _∙_}
+use mathlib.Core.Path.{_≡_, refl, sym, _∙_}
 use mathlib.Core.Bool.{Bool, true, false, _||_, or-true, false≢true}
 use mathlib.Core.List.{List, [], _∷_, _++_, append-assoc, append-nil}
 use mathlib.Core.Logic.{_⊎_, inl, inr}
 use mathlib.Core.Option.{Option, none, some}
 use native.Mathlib.Omega.{arith}
-use lib.Dec.{eqb, ltb}
+use lib.Dec.{eqb}
 use lib.ListN.{length, getD}
 use borrow.Author.Tests.{eqb-true, eqb-false, eq-eqb, ne-eqb, ltb-true, ltb-false}
 use Rattle.word.specs.First.{choose}
 use Rattle.word.specs.Lowest.{found?}
-use Rattle.word.proofs.First.{by-test, choose-true, choose-false}
+use Rattle.word.proofs.First.{by-test, choose-false}
 use Rattle.rules.specs.Next.{_in-state_, nexts}
 use Rattle.rules.specs.Reason.{Submission, size, commandAt, flawAt}
 use Rattle.rules.specs.Judging.{placeOf, stateOf}

@@ -1,14 +1,13 @@
 -- What the room holds of all that is found. Assumes nothing.
 use Prim.Native.Nat.{ℕ, _*_, _/_, _%_, _^_, _≤_, _<_}
-use mathlib.Core.Path.{_≡_, refl, sym, ap, _∙_}
+use mathlib.Core.Path.{_≡_, refl, sym, ap}
 use mathlib.Core.Bool.{true, false}
 use mathlib.Core.Logic.{⊎-elim}
 use native.Mathlib.Nat.{eq-or-lt-of-le}
 use native.Mathlib.Omega.{arith}
 use lib.ListN.{length, getD}
 use Rattle.rules.specs.Reason.{Submission, size}
-use Rattle.rules.specs.Judging.{placeOf}
-use Rattle.rules.specs.Search.{_found-from_, isFound, found, listOf}
+use Rattle.rules.specs.Search.{isFound, found, listOf}
 use Rattle.rules.specs.Promises.{nth}
 use Rattle.rules.proofs.Complete.{reached-within}
 use Rattle.rules.proofs.Growing.{nth-found}

@@ -6,13 +6,11 @@ use mathlib.Core.List.{List, [], _∷_, _++_}
 use mathlib.Core.Logic.{_↔_}
 use mathlib.Core.Option.{Option, none, some}
 use native.Mathlib.Omega.{arith}
-use lib.Dec.{eqb}
 use lib.ListN.{length, getD, drop, length-append, length-drop, List·getD-append}
 use lib.Seq.{getD-append-add, getD-drop}
 use borrow.Author.Tests.{eq-eqb, ne-eqb, ltb-false}
-use Rattle.word.specs.First.{choose, first, FirstIs}
+use Rattle.word.specs.First.{choose, first}
 use Rattle.word.specs.Setting.{refusedOr}
-use Rattle.word.specs.declared.setting.Setting.{Setting}
 use Rattle.word.specs.declared.setting.Refusal.{Refusal}
 use Rattle.word.proofs.First.{Agree, none-fails, one-outcome}
 use Rattle.word.proofs.Tests.{less-plain}
@@ -25,9 +23,8 @@ use Rattle.rules.specs.Search.{numberOf, Found, _found-from_, isFound, found}
 use Rattle.rules.specs.Promises.{Numbers, nth}
 use Rattle.rules.proofs.ExactMap.{counts-most, found-reached, reached-found}
 use Rattle.rules.proofs.Finds.{number-plain, finds}
-use Rattle.search.specs.Room.{fromOf, pairOf, entryOf, roomOf, searchCases, searchOf, roomAfter}
+use Rattle.search.specs.Room.{fromOf, pairOf, roomOf, searchCases, searchOf, roomAfter}
 use Rattle.search.specs.Answers.{searchedRefusal, searchedValues}
-use Rattle.search.specs.Contracts.{Searches}
 use Rattle.search.specs.Promises.{searchPlain, Refused, One, Told, Tells}
 use Rattle.search.specs.declared.searching.Searched.{Searched}
 use Rattle.search.specs.declared.searching.Searched.the-variants as searched

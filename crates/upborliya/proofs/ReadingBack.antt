@@ -1,7 +1,6 @@
 -- `ReadingBack`: the parts of a reading's number. Assumes nothing.
 use Prim.Native.Nat.{ℕ, _+_, _*_, _/_, _%_, _^_, _≤_, _<_}
 use mathlib.Core.Path.{_≡_, refl, sym, ap, _∙_}
-use mathlib.Core.Bool.{Bool}
 use mathlib.Core.List.{[], _∷_}
 use mathlib.Core.Logic.{_⊎_, inl, inr, ⊎-elim}
 use mathlib.Core.Option.{none, some}
@@ -16,7 +15,7 @@ use Rattle.word.specs.declared.reading.Reading.the-variants.{Increasing, NonInc
 use Rattle.word.proofs.Promises as word
 use Rattle.upborliya.specs.Packed.{packedRun, packedReading, on}
 use Rattle.upborliya.specs.Contracts.{settingBy}
-use Rattle.upborliya.specs.Promises.{UnpackedReading, Switches, ReadingBack}
+use Rattle.upborliya.specs.Promises.{UnpackedReading, ReadingBack}
 use Rattle.upborliya.proofs.GivesBack.{switched}
 
 -- the parts of a run, and of one value

@@ -1,12 +1,11 @@
 -- `RepairBack`: the parts of the repair's number. Assumes nothing.
-use Prim.Native.Nat.{ℕ, _*_, _/_, _%_, _^_, _≤_, _<_}
-use mathlib.Core.Path.{_≡_, refl, sym, ap, _∙_}
-use mathlib.Core.Bool.{Bool}
-use mathlib.Core.List.{List, [], _∷_}
-use mathlib.Core.Option.{none, some}
+use Prim.Native.Nat.{ℕ, _^_, _≤_, _<_}
+use mathlib.Core.Path.{_≡_, refl, ap, _∙_}
+use mathlib.Core.List.{[], _∷_}
+use mathlib.Core.Option.{some}
 use native.Mathlib.Omega.{arith}
 use Rattle.repair.specs.Answers.{repairedRefusal, repairedValues}
-use Rattle.repair.specs.Contracts.{RepairLoan, Repairs}
+use Rattle.repair.specs.Contracts.{Repairs}
 use Rattle.repair.specs.declared.repairing.Repaired.{Repaired}
 use Rattle.repair.specs.declared.repairing.Repaired.the-variants.{Changes, Refused}
 use Rattle.repair.proofs.Promises.{one, few-changes, small-refusal}

@@ -1,5 +1,4 @@
 use native.Mathlib.Omega.{arith}
-use borrow.Author.Needs.{needs}
 use Rattle.repair.specs.Changes.{change}
 use Rattle.repair.proofs.marks.change.Statement.{statement}
 use Rattle.repair.proofs.marks.change.Tie as tie

@@ -1,7 +1,6 @@
-use Prim.Native.Nat.{ℕ, _-_, _≤_}
-use mathlib.Core.Path.{_≡_, refl, _∙_}
+use Prim.Native.Nat.{_-_, _≤_}
+use mathlib.Core.Path.{_≡_}
 use native.Mathlib.Omega.{arith}
-use borrow.Author.Needs.{needs}
 use lib.ListN.{length}
 use Rattle.repair.proofs.Rewriting.{Passed, passed-none, room-there, passed-more, passed-all}
 use Rattle.repair.proofs.marks.rewrite.Statement.{statement}
