@@ -15,7 +15,7 @@ use word::Refusal;
 use word::Setting;
 
 // The most words that are repaired.
-pub const MOST_REPAIRED: usize = 8192;
+const MOST_REPAIRED: usize = 8192;
 
 // What the repair answers: how many bytes of the map it changed, or why it changed nothing.
 pub enum Repaired {

@@ -31,7 +31,7 @@ unfoldable pub isFound : List Found → ℕ → Bool
 isFound [] k = false
 isFound (f ∷ fs) k = eqb (f .pair) k || isFound fs k
 
--- how many of the numbers below m are those of pairs that were found
+-- how many of the numbers below m are those of pairs that were found: by this it is counted that the turns are enough
 unfoldable pub foundBelow : List Found → ℕ → ℕ
 foundBelow fs zero = 0
 foundBelow fs (suc m) = foundBelow fs m + choose (isFound fs m) 1 0
@@ -50,7 +50,7 @@ taking x j fs =
     choose (found? (flawAt x (placeOf j) (stateOf j))) fs
     (findEach (size x) j fs (nexts (commandAt x (placeOf j)) (placeOf j) (stateOf j)))
 
--- the one that was found as the i-th, from 0, if there are so many
+-- H9: the one that was found as the i-th, from 0, is taken, if there are so many
 unfoldable pub takeNth : Submission → ℕ → List Found → List Found
 takeNth x i fs = choose (ltb i (length fs)) (taking x (getD fs i (0 found-from 0) .pair) fs) fs
 

@@ -20,6 +20,7 @@ fromOf (f ∷ fs) k = choose (eqb (f .pair) k) (f .from + 1) (fromOf fs k)
 unfoldable pub pairOf : List Found → ℕ → ℕ
 pairOf fs i = getD fs i (0 found-from 0) .pair
 
+-- H11: both halves
 unfoldable pub entryOf : List Found → ℕ → ℕ
 entryOf fs k = pairOf fs k * 2 ^ 32 + fromOf fs k
 
