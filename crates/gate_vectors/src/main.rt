@@ -132,10 +132,8 @@ fn next_record(
 ) -> Record {
     let kind = input::next_word();
     match kind {
-        1 => judged(kind, words, map, permit),
-        2 => judged(kind, words, map, permit),
-        3 => repaired(kind, words, map, permit, list, work),
-        4 => repaired(kind, words, map, permit, list, work),
+        1 | 2 => judged(kind, words, map, permit),
+        3 | 4 => repaired(kind, words, map, permit, list, work),
         5 => searched(words, permit, work),
         6 => read(),
         _ => over(kind),
