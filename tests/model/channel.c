@@ -565,16 +565,24 @@ static struct answer take_command(struct channel *channel, uint32_t word)
     }
 }
 
+/* S9, S10: whether the read address has no word to give. In IB mode only the lent words say so: the place,
+ * of up to 38 bits, is not cut to an index. */
+static bool is_protected(const struct channel *channel, const struct lent *lent)
+{
+    if (!is_ib(channel) && channel->get > channel->setup.dma_limit)
+        return true;
+    return channel->get / 4 >= lent->word_count;
+}
+
 /* S6, S9: the word at the read address. */
 static struct answer read_word(struct channel *channel, const struct lent *lent)
 {
-    uint64_t get = channel->get;
     uint32_t word;
 
-    /* S10, S28: past the limit or the lent words nothing moves. */
-    if (get > channel->setup.dma_limit || get / 4 >= lent->word_count)
+    /* S10, S28: where there is none, nothing moves. */
+    if (is_protected(channel, lent))
         return stop_pusher(channel, PUSHER_PROTECTION);
-    word = lent->words[get / 4];
+    word = lent->words[channel->get / 4];
     advance(channel);
     /* S14: what the word is, only the turn says. */
     if (channel->count_awaited)

@@ -70,6 +70,7 @@ static struct answer run_step(struct run *run, struct lens lens)
     add_clock(&run->operations, clock);
     answer = add_step(run->vectors, &run->operations, header, &run->channel, &lent);
     count_one(run->vectors, STEP, answer.kind);
+    count_read(run->vectors, RUN_READ, &before, &lent, answer);
     if (is_long_step(&before, &run->channel, answer))
         count_one(run->vectors, LONG_STEP, answer.kind);
     if (answer.refusal != REFUSAL_NONE)
@@ -318,11 +319,14 @@ static struct setup draw_setup(struct draw *draw)
     return setup;
 }
 
-/* S10: a limit at one of the last words, a byte before or behind it. */
-static uint32_t draw_limit(struct draw *draw, const struct memory *memory)
+/* S10: a limit at one of the last words, a byte before or behind it; in IB mode, where a run goes on past it,
+ * 0 as often as not. */
+static uint32_t draw_limit(struct draw *draw, struct setting setting, const struct memory *memory)
 {
     uint32_t last = memory->word_count / 2 + draw_below(draw, memory->word_count / 2 + 1);
 
+    if (setting.mode == MODE_IB && draw_once_in(draw, 2))
+        return 0;
     return 4 * last + draw_below(draw, 5) - 1;
 }
 
@@ -352,8 +356,9 @@ static void put_any_run(struct vectors *vectors)
     struct memory memory;
 
     compose(draw, &setup, ending, size, &memory);
-    if (draw_once_in(draw, 16))
-        setup.dma_limit = draw_limit(draw, &memory);
+    /* S10: few in NV04-style, as they end runs. */
+    if (draw_once_in(draw, setup.setting.mode == MODE_IB ? 2 : 16))
+        setup.dma_limit = draw_limit(draw, setup.setting, &memory);
     if (draw_once_in(draw, 50))
         take_away(draw, &memory);
     put_run(vectors, &setup, &memory, 24 + draw_below(draw, MOST_STEPS - 23));

@@ -48,6 +48,7 @@ static uint32_t put_single(struct vectors *vectors, const struct single *single)
     header = buffer.count++;
     answer = add_step(vectors, &buffer, header, &channel, &lent);
     put_record(vectors, SINGLE, buffer.words, buffer.count, answer.kind);
+    count_read(vectors, SINGLE_READ, &single->channel, &lent, answer);
     if (answer.refusal != REFUSAL_NONE)
         count_one(vectors, SINGLE_REFUSED, answer.refusal);
     /* Behind the words that records give, released words would stay. */
@@ -97,19 +98,22 @@ static void set_word(struct single *single, uint32_t word)
     single->memory.words[single->memory.word_count - 1] = word;
 }
 
-/* A channel that is about to read the last of the words given, which may read it by limit and lending, and
- * takes methods. What the word is to be is left open. */
+/* S10: a channel that is about to read the last of the words given, which may read it by limit and lending,
+ * and takes methods. In IB mode, which has no use for a limit, that is 0 as often as not. What the word is to
+ * be is left open. */
 static struct single draw_reading(struct draw *draw, struct setting setting)
 {
     struct single single = {.channel = draw_channel(draw, setting)};
     struct channel *channel = &single.channel;
+    uint32_t least;
 
     single.memory.word_count = 1 + draw_below(draw, 2);
     single.lens.words = single.memory.word_count + draw_below(draw, 2);
     channel->get = 4 * (single.memory.word_count - 1);
     if (channel->put == channel->get)
         channel->put += 4;
-    channel->setup.dma_limit = draw_once_in(draw, 2) ? (uint32_t)channel->get : UINT32_MAX;
+    least = setting.mode == MODE_IB ? 0 : (uint32_t)channel->get;
+    channel->setup.dma_limit = draw_once_in(draw, 2) ? least : UINT32_MAX;
     channel->sli_active = true;
     return single;
 }
@@ -800,42 +804,83 @@ static void put_run_ends(struct vectors *vectors)
     }
 }
 
-/* S9, S10, S11, S12: a read address and a limit around each other, in either mode; half of the time the word
- * is also the last lent or the one after it. */
+/* S9, S10, S11, S12: a read address and a limit around each other, in either mode, where the word is the last
+ * lent or the one after it. */
 static void put_limits(struct vectors *vectors)
 {
     static const uint32_t differences[] = {0, 1, 3, 4, UINT32_MAX, UINT32_MAX - 3};
 
-    for (uint32_t i = 0; i < STATES * 12; i++) {
-        uint32_t place = draw_below(&vectors->draw, 5);
+    for (uint32_t i = 0; i < STATES * 6 * 2; i++) {
+        uint32_t place = 1 + draw_below(&vectors->draw, 5);
         struct state state = state_at(i % STATES);
         struct single single = draw_reading(&vectors->draw, state.setting);
 
         single.channel.get = 4 * place;
         single.channel.put = 4 * (place + 1 + draw_below(&vectors->draw, 9));
-        single.lens.words = i / STATES < 6 ? place + 1 : place + draw_below(&vectors->draw, 3);
+        single.lens.words = place + 1 - i / STATES / 6;
         single.channel.setup.dma_limit = 4 * place + differences[i / STATES % 6];
         put_single(vectors, &single);
     }
 }
 
-/* S10: addresses that only 40 bits hold, above any limit, and never an index cut to 32 bits. */
+/* S10, S28: limits far below the read address, 0 as often as not, where the word is the last lent or the one
+ * after it. Only IB mode reads on. */
+static void put_low_limits(struct vectors *vectors)
+{
+    static const uint32_t places[] = {1, 64, 1023, 16383};
+
+    for (uint32_t i = 0; i < STATES * 4 * 2; i++) {
+        uint32_t place = places[i / STATES % 4];
+        uint32_t below = draw_below(&vectors->draw, 4 * place);
+        struct single single = draw_reading(&vectors->draw, state_at(i % STATES).setting);
+
+        single.channel.get = 4 * place;
+        single.channel.put = 4 * draw_below(&vectors->draw, place);
+        single.lens.words = place + 1 - i / STATES / 4;
+        single.channel.setup.dma_limit = draw_once_in(&vectors->draw, 2) ? 0 : below;
+        put_single(vectors, &single);
+    }
+}
+
+/* S10, S11, S12, S17, S28: the limit that the rules work through, in either mode: at the last of two lent
+ * words and at the place after it, with the least limit and the largest. All else is at rest. */
+static void put_worked_limits(struct vectors *vectors)
+{
+    for (uint32_t i = 0; i < 2 * 2 * 2 * 2; i++) {
+        struct setup setup = {{4 + i % 2, i / 2 % 2 == 0 ? MODE_NV04 : MODE_IB, false}, 0, 0, 0};
+        struct single single = {.lens = {.words = 2}};
+
+        setup.dma_limit = i / 4 % 2 == 0 ? 0 : UINT32_MAX;
+        model_open(&single.channel, setup, NULL, 0);
+        single.channel.get = i / 8 == 0 ? 4 : 8;
+        single.channel.put = 12;
+        put_single(vectors, &single);
+    }
+}
+
+/* S9, S10: addresses past any memory, whatever the limit. Cut to 32 bits, or with a place cut to these or to
+ * the 20 that a memory has, most would be at one of the three words that are lent. NV04-style has the first
+ * ones. */
 static void put_far_words(struct vectors *vectors)
 {
-    static const uint64_t addresses[] = {0xfffffffc,
-                                         UINT64_C(0x100000000),
-                                         UINT64_C(0x100000004),
-                                         UINT64_C(0xff00000000),
-                                         UINT64_C(0xfffffffffc),
-                                         0x80000000};
+    static const uint64_t addresses[] = {
+        0x400004,     0x40000004,  0x80000000,  0xfffffffc,  0x100000000,  0x100000004,  0x8000000008,
+        0xff00000004, 0x3fffffffc, 0x400000000, 0x400000004, 0x7400000008, 0xfc00000004, 0xfffffffffc,
+    };
+    static const uint32_t limits[] = {0, 4, 0x80000000, UINT32_MAX};
 
-    for (uint32_t i = 0; i < 6 * 6; i++) {
-        struct state state = state_at(i % 2 == 0 ? 9 : 15);
-        struct single single = draw_reading(&vectors->draw, state.setting);
+    for (uint32_t i = 0; i < 2 * 4 * sizeof addresses / sizeof addresses[0]; i++) {
+        uint64_t address = addresses[i / 8];
+        uint32_t level = 4 + draw_below(&vectors->draw, 2);
+        struct setting setting = {level, i % 2 == 0 ? MODE_IB : MODE_NV04, false};
+        struct single single = draw_reading(&vectors->draw, setting);
 
-        single.channel.get = addresses[i / 6];
-        single.channel.put = i / 2 % 2 == 0 ? 0 : (addresses[i / 6] + 4) & UINT64_C(0xffffffffff);
-        single.channel.setup.dma_limit = UINT32_MAX;
+        if (setting.mode == MODE_NV04 && address > UINT32_MAX)
+            continue;
+        single.channel.get = address;
+        single.channel.put = draw_once_in(&vectors->draw, 2) ? 0 : address - 4;
+        single.channel.setup.dma_limit = limits[i / 2 % 4];
+        single.lens.words = 3;
         put_single(vectors, &single);
     }
 }
@@ -1098,15 +1143,16 @@ static void put_sizes(struct vectors *vectors)
     }
 }
 
-/* R8, S10: the last word of the largest pushbuffer, and one past it. */
+/* R8, S10: the last word of the largest pushbuffer, and one past it, in IB mode with the limit 0. */
 static void put_last_words(struct vectors *vectors)
 {
     for (uint32_t i = 0; i < 4; i++) {
-        struct single single = draw_reading(&vectors->draw, draw_setting(&vectors->draw));
+        struct setting setting = {4 + i % 2, i / 2 == 0 ? MODE_NV04 : MODE_IB, false};
+        struct single single = draw_reading(&vectors->draw, setting);
 
         single.channel.get = 4 * (SIZE_LIMIT - 1 + i % 2);
         single.channel.put = 0;
-        single.channel.setup.dma_limit = UINT32_MAX;
+        single.channel.setup.dma_limit = i / 2 == 0 ? UINT32_MAX : 0;
         single.lens.words = SIZE_LIMIT;
         put_single(vectors, &single);
     }
@@ -1159,6 +1205,8 @@ void put_singles(struct vectors *vectors)
     put_count_words(vectors);
     put_run_ends(vectors);
     put_limits(vectors);
+    put_low_limits(vectors);
+    put_worked_limits(vectors);
     put_far_words(vectors);
     put_entries(vectors);
     put_far_entries(vectors);

@@ -1,5 +1,6 @@
 /* The self-test of the model of the channel: the rules as cases worked out by hand, the printed example,
- * second readings of opening, of long semaphores and of STATE, and what must hold of any run. */
+ * second readings of opening, of where a word is read, of long semaphores and of STATE, and what must hold of
+ * any run. */
 #include <inttypes.h>
 #include <stdio.h>
 #include <stdlib.h>
@@ -129,15 +130,22 @@ static struct channel taking(uint32_t level, uint32_t number, uint32_t parameter
     return channel;
 }
 
-/* S11, S12: the channel after word 0 is read. In IB mode dma_mget follows, unless NOT_MAIN is set. */
-static struct channel advanced(struct channel channel)
+/* S11, S12: the channel after the word at an address is read. In IB mode dma_mget follows, unless NOT_MAIN is
+ * set. */
+static struct channel advanced_from(struct channel channel, uint64_t address)
 {
-    channel.get = 4;
+    channel.get = address + 4;
     if (channel.setup.setting.mode == MODE_IB && !channel.not_main) {
-        channel.dma_mget = 4;
+        channel.dma_mget = address + 4;
         channel.dma_mget_valid = true;
     }
     return channel;
+}
+
+/* S11, S12: the same for word 0. */
+static struct channel advanced(struct channel channel)
+{
+    return advanced_from(channel, 0);
 }
 
 /* S25: the channel after word 0 is taken as a parameter, as far as the pusher goes. */
@@ -431,40 +439,94 @@ static void test_addresses(uint32_t mode)
     }
 }
 
-/* S10, S27, S28: at and past the limit, and at and past the last lent word. */
+/* S10, S27, S28: limits below, at and above the read address 8, at the last lent word and past it. Those
+ * below stop NV04-style alone, and none lets a word be read that isn't lent. */
 static void test_protection(uint32_t level, uint32_t mode)
 {
-    struct channel channel = reading(level, mode, false);
-    struct channel after;
+    static const struct {
+        uint32_t limit;
+        bool is_below;
+    } rows[] = {{0, true},           {1, true},           {4, true},          {7, true},
+                {8, false},          {9, false},          {11, false},        {12, false},
+                {0x7fffffff, false}, {0x80000000, false}, {UINT32_MAX, false}};
 
-    channel.get = 8;
-    channel.setup.dma_limit = 7;
-    steps("PROTECTION one byte past the limit", channel, plain(KIND_ERROR),
-          pusher_stopped(channel, PUSHER_PROTECTION));
-    scene.lent.word_count = 3;
-    channel.setup.dma_limit = 8;
-    after = advanced(channel);
-    after.get = 12;
-    if (mode == MODE_IB)
-        after.dma_mget = 12;
-    steps("a word at the limit, the last that is lent", channel, plain(KIND_COMMAND), after);
-    scene.lent.word_count = 2;
-    steps("PROTECTION one word past the lent ones", channel, plain(KIND_ERROR),
-          pusher_stopped(channel, PUSHER_PROTECTION));
+    for (unsigned i = 0; i < sizeof rows / sizeof rows[0]; i++) {
+        struct channel channel = reading(level, mode, false);
+
+        channel.get = 8;
+        channel.setup.dma_limit = rows[i].limit;
+        scene.lent.word_count = 3;
+        if (mode == MODE_NV04 && rows[i].is_below)
+            steps("PROTECTION past the limit", channel, plain(KIND_ERROR),
+                  pusher_stopped(channel, PUSHER_PROTECTION));
+        else
+            steps("a word within the limit, or in IB mode past it", channel, plain(KIND_COMMAND),
+                  advanced_from(channel, 8));
+        for (size_t count = 0; count <= 2; count++) {
+            scene.lent.word_count = count;
+            steps("PROTECTION past the lent words, whatever the limit", channel, plain(KIND_ERROR),
+                  pusher_stopped(channel, PUSHER_PROTECTION));
+        }
+    }
 }
 
-/* S10: an address of 40 bits is above a limit of 32, and isn't cut to an index. */
+/* S10: limits at both ends of 32 bits and between them. */
+static const uint32_t limits[] = {0, 4, 0x1f, 0x7fffffff, 0x80000000, UINT32_MAX};
+
+enum { LIMITS = sizeof limits / sizeof limits[0] };
+
+/* S9, S10: addresses past the lent words, all but one past any memory. Most would be at a lent word if they
+ * or their places were cut to 32 bits or fewer; others are the last before such a number wraps. */
+static const uint64_t far_words[] = {0x20,         0x400000,     0x400004,     0x40000000,
+                                     0x80000000,   0xfffffffc,   0x100000000,  0x100000004,
+                                     0x10000001c,  0x3fffffffc,  0x400000000,  0x400000004,
+                                     0x8000000000, 0x8000000004, 0xff00000008, 0xfffffffffc};
+
+enum { FAR_WORDS = sizeof far_words / sizeof far_words[0] };
+
+/* S10: no limit makes such an address one that is read. NV04-style has those of 32 bits. */
 static void test_protection_far(void)
 {
-    struct channel channel = reading(4, MODE_IB, false);
+    for (unsigned i = 0; i < 2 * 2 * LIMITS * FAR_WORDS; i++) {
+        uint64_t address = far_words[i / 4 / LIMITS];
+        struct channel channel = at(4 + i % 2, i / 2 % 2 == 0 ? MODE_NV04 : MODE_IB, false);
 
-    channel.get = UINT64_C(1) << 32;
-    steps("PROTECTION past any limit", channel, plain(KIND_ERROR),
-          pusher_stopped(channel, PUSHER_PROTECTION));
-    channel = reading(4, MODE_NV04, false);
-    channel.get = 0xfffffffc;
-    steps("PROTECTION at the last address", channel, plain(KIND_ERROR),
-          pusher_stopped(channel, PUSHER_PROTECTION));
+        if (i / 2 % 2 == 0 && address > UINT32_MAX)
+            continue;
+        channel.get = address;
+        channel.setup.dma_limit = limits[i / 4 % LIMITS];
+        steps("PROTECTION far past the lent words", channel, plain(KIND_ERROR),
+              pusher_stopped(channel, PUSHER_PROTECTION));
+    }
+}
+
+/* S10, S12, S17, S28: the limit that the rules work through: two words that are lent, and the read
+ * address 4. */
+static void test_worked_limit(void)
+{
+    struct channel nv04 = at(4, MODE_NV04, false);
+    struct channel ib = at(4, MODE_IB, false);
+    struct channel after;
+
+    scene.lent.word_count = 2;
+    nv04.setup.dma_limit = ib.setup.dma_limit = 0;
+    nv04.get = ib.get = 4;
+    nv04.put = ib.put = 12;
+    after = nv04;
+    after.pusher_error = PUSHER_PROTECTION;
+    steps("in NV04-style 4 is above the limit", nv04, plain(KIND_ERROR), after);
+    steps("and there it stays", after, plain(KIND_STOPPED), after);
+    after = ib;
+    after.get = 8;
+    after.dma_mget = 8;
+    after.dma_mget_valid = true;
+    steps("in IB mode the word at place 1 is read", ib, plain(KIND_COMMAND), after);
+    steps("and none at place 2", after, plain(KIND_ERROR), pusher_stopped(after, PUSHER_PROTECTION));
+    nv04.get = ib.get = 8;
+    steps("nor in NV04-style", nv04, plain(KIND_ERROR), pusher_stopped(nv04, PUSHER_PROTECTION));
+    nv04.setup.dma_limit = ib.setup.dma_limit = UINT32_MAX;
+    steps("nor with the largest limit", nv04, plain(KIND_ERROR), pusher_stopped(nv04, PUSHER_PROTECTION));
+    steps("nor with the largest limit", ib, plain(KIND_ERROR), pusher_stopped(ib, PUSHER_PROTECTION));
 }
 
 /* S14, S15: one and the same word as a count, as a parameter and as a command. */
@@ -821,6 +883,47 @@ static void test_entry_indices(void)
     after.ib_get = 3;
     scene.entries[2] = UINT64_C(0x300) << 32 | 0xffffffff;
     steps("an entry without words", channel, plain(KIND_ERROR), pusher_stopped(after, PUSHER_IB));
+}
+
+/* S10, S28, E5, E6: an entry that points beyond the lent words is read all the same, and only its first word
+ * is not. The read address stays at the entry's. */
+static void test_entries_beyond(void)
+{
+    for (unsigned i = 0; i < 2 * LIMITS * FAR_WORDS; i++) {
+        uint64_t address = far_words[i / 2 / LIMITS];
+        uint64_t not_main = i % 2;
+        struct channel channel = fetching(UINT64_C(2) << 42 | not_main << 41 | address);
+        struct channel after;
+
+        channel.setup.dma_limit = limits[i / 2 % LIMITS];
+        after = channel;
+        after.ib_get = 1;
+        after.get = address;
+        after.put = address == UINT64_C(0xfffffffffc) ? 4 : address + 8;
+        after.not_main = not_main != 0;
+        after.dma_mget = after.not_main ? 0x77 : address;
+        steps("an entry beyond the lent words", channel, plain(KIND_ENTRY), after);
+        steps("PROTECTION at the entry's address", after, plain(KIND_ERROR),
+              pusher_stopped(after, PUSHER_PROTECTION));
+    }
+}
+
+/* S10, E5: an entry over the last two lent words and one more, which is where it stops. */
+static void test_entry_overrun(void)
+{
+    static const uint32_t kinds[] = {KIND_ENTRY, KIND_COMMAND, KIND_COMMAND, KIND_ERROR, KIND_STOPPED};
+
+    for (unsigned i = 0; i < LIMITS; i++) {
+        struct channel channel = fetching(UINT64_C(3) << 42 | 24);
+
+        channel.setup.dma_limit = limits[i];
+        for (unsigned j = 0; j < sizeof kinds / sizeof kinds[0]; j++)
+            check(model_step(&channel, &scene.lent).kind == kinds[j], "an entry past the lent words' end", 4,
+                  MODE_IB);
+        check(channel.pusher_error == PUSHER_PROTECTION, "stops at that end", 4, MODE_IB);
+        check(channel.get == 32 && channel.dma_mget == 32 && channel.put == 36, "with one word to go", 4,
+              MODE_IB);
+    }
 }
 
 /* S12: dma_mget and its valid flag, in either mode. */
@@ -1394,6 +1497,70 @@ static void test_address_width(uint32_t level, uint32_t mode)
     }
 }
 
+/* ---- Where a word is read, read a second time ---- */
+
+/* S10: how many words there are to read; in NV04-style none behind the one that the limit lies in. */
+static uint64_t readable_second(const struct record *row)
+{
+    uint64_t lent = scene.lent.word_count;
+    uint64_t within = row->word[AT_DMA_LIMIT] / 4 + UINT64_C(1);
+
+    return row->word[AT_MODE] == MODE_IB || lent < within ? lent : within;
+}
+
+/* S9, S10, S11, S12, S16: the row's address is looked for among those of these words, of which each has its
+ * place plus one as its count; the answer is the event's kind. */
+static uint32_t read_second(struct record *row)
+{
+    for (uint32_t place = 0; place < readable_second(row); place++) {
+        if (row->word[AT_GET] != 4 * place || row->word[AT_GET_HIGH] != 0)
+            continue;
+        row->word[AT_GET] += 4;
+        if (row->word[AT_MODE] == MODE_IB && row->word[AT_NOT_MAIN] == 0) {
+            record_set(row, AT_DMA_MGET, row->word[AT_GET]);
+            row->word[AT_DMA_MGET_VALID] = 1;
+        }
+        row->word[AT_COUNT] = place + 1;
+        row->word[AT_INCREASING] = 1;
+        return KIND_COMMAND;
+    }
+    row->word[AT_PUSHER_ERROR] = 6;
+    return KIND_ERROR;
+}
+
+/* A limit on either side of an address, or wherever it may be. */
+static uint32_t draw_limit(struct draw *draw, uint64_t address)
+{
+    uint32_t any = limits[draw_below(draw, LIMITS)];
+
+    return draw_once_in(draw, 2) ? any : (uint32_t)address + 8 - draw_below(draw, 17);
+}
+
+/* S9, S10, S11, S12: a read address at or right behind the lent words, in one of four cases with a further
+ * bit of those that the mode has, and any limit. */
+static void test_second_read(struct draw *draw)
+{
+    struct setting setting = draw_setting(draw);
+    bool is_ib = setting.mode == MODE_IB;
+    struct channel channel = at(setting.level, setting.mode, setting.sli);
+    struct record row;
+    uint32_t kind;
+
+    for (uint32_t i = 0; i < 8; i++)
+        scene.words[i] = (i + 1) << 18;
+    scene.lent.word_count = draw_below(draw, 9);
+    channel.get = 4 * draw_below(draw, 10);
+    if (draw_once_in(draw, 4))
+        channel.get |= UINT64_C(4) << draw_below(draw, is_ib ? 38 : 30);
+    channel.put = channel.get ^ 4;
+    channel.setup.dma_limit = draw_limit(draw, channel.get);
+    channel.not_main = draw_once_in(draw, 2);
+    channel.dma_mget = is_ib ? UINT64_C(0xa900000077) : 0x77;
+    row = record_of(&channel);
+    kind = read_second(&row);
+    steps("where a word is read", channel, plain(kind), channel_of(&row));
+}
+
 /* ---- Long semaphores, read a second time ---- */
 
 /* P23: SEMAPHORE 1 to 4, by the number that each is stored as. */
@@ -1892,6 +2059,24 @@ static void check_clock(const uint32_t *before, const struct lent *lent, const s
               "the memory of another clock", 0, 0);
 }
 
+/* S10: the same step in IB mode with another limit, which changes nothing but itself. */
+static void check_limit(const uint32_t *before, const struct lent *lent, const struct channel *channel,
+                        const struct channel *after, struct answer answer)
+{
+    uint32_t semaphores[POOL];
+    struct lent other = *lent;
+    struct channel further = *channel;
+    struct channel wanted = *after;
+
+    memcpy(semaphores, before, sizeof semaphores);
+    other.semaphores = semaphores + POOL - lent->semaphore_count;
+    further.setup.dma_limit = wanted.setup.dma_limit = ~channel->setup.dma_limit;
+    check(same_answer(model_step(&further, &other), answer), "the event of another limit", 0, MODE_IB);
+    check(same_channel(&further, &wanted), "the channel of another limit", 0, MODE_IB);
+    check(memcmp(semaphores, semaphore_pool, sizeof semaphores) == 0, "the memory of another limit", 0,
+          MODE_IB);
+}
+
 /* R7, S31: put is refused by its own rule alone. */
 static void run_put(struct draw *draw, struct channel *channel)
 {
@@ -1918,6 +2103,8 @@ static void run_step(struct draw *draw, struct channel *channel)
     check_kept(&before, channel, answer);
     check_memory(semaphores, &lent, &before, answer);
     check_clock(semaphores, &lent, &before, channel, answer);
+    if (before.setup.setting.mode == MODE_IB)
+        check_limit(semaphores, &lent, &before, channel, answer);
 }
 
 /* S31: a channel as opening leaves it, also a refused one, over puts and steps, each with its own lent
@@ -2089,6 +2276,7 @@ int main(void)
     test_put();
     test_step_refusals();
     test_protection_far();
+    test_worked_limit();
     test_levels();
     test_long();
     test_flow_in_ib();
@@ -2096,6 +2284,8 @@ int main(void)
     test_wrap();
     test_entries();
     test_entry_indices();
+    test_entries_beyond();
+    test_entry_overrun();
     test_mget();
     test_entry_ends();
     test_longs();
@@ -2103,6 +2293,7 @@ int main(void)
     for (unsigned i = 0; i < 100000; i++)
         test_state(&draw);
     for (unsigned i = 0; i < 100000; i++) {
+        test_second_read(&draw);
         test_second_method(&draw);
         test_second_retry(&draw);
     }

@@ -173,6 +173,23 @@ static void count_retry(struct vectors *vectors, const struct channel *before, s
         count_one(vectors, RETRY_BELOW, answer.kind);
 }
 
+/* S10: by the mode, and by which of limit and lent words the read address is past. Once more where an address
+ * or, under 1, a place cut to 32 bits would be at a lent word. */
+void count_read(struct vectors *vectors, uint32_t kind, const struct channel *before,
+                const struct lent *lent, struct answer answer)
+{
+    uint64_t place = before->get / 4;
+    bool is_above = before->get > before->setup.dma_limit;
+    bool is_beyond = place >= lent->word_count;
+
+    if (answer.refusal != REFUSAL_NONE || answer.kind == KIND_STOPPED || before->acquire_active ||
+        before->get == before->put)
+        return;
+    count_one(vectors, kind, 4 * before->setup.setting.mode + 2 * is_beyond + is_above);
+    if (is_beyond && (uint32_t)before->get / 4 < lent->word_count)
+        count_one(vectors, FAR_READ, (uint32_t)place < lent->word_count);
+}
+
 /* S26, P23: counts what stopped the channel, by its number, where the step did. */
 static void count_error(struct vectors *vectors, const struct channel *channel, struct answer answer,
                         bool was_retry)
@@ -255,12 +272,15 @@ int main(int count, char **arguments)
      * words other than 0 of the channels that are written whole. The triggers of long semaphores are counted
      * by their operation, the retries by their mode (RETRY_BELOW: those of a long one below level 5), and in
      * runs both together as LONG_STEP, all by the event's kind; LONG_FAULT by the puller's error of 0x10 to
-     * 0x1c; WRITTEN by how many semaphore words a step made others. */
+     * 0x1c; WRITTEN by how many semaphore words a step made others. SINGLE_READ and RUN_READ count the reads
+     * of a word, by 1 where it is above the limit, plus 2 where it is beyond the lent words, plus 4 in IB
+     * mode; FAR_READ those that only a cut address would make good, by 1 where a cut place would too. */
     static const char *const names[] = {
         "OPEN",           "RUN",        "SINGLE",       "PUT",           "STEP",        "REFUSED",
         "SINGLE_REFUSED", "ERROR",      "CAUSE",        "RETRY_FAULT",   "STATE",       "RUN_PUT",
         "WORD",           "LONG_EQUAL", "LONG_GREATER", "LONG_RELEASE",  "LONG_OTHER",  "LONG_FAULT",
-        "LONG_STEP",      "RETRY_OLD",  "RETRY_EQUAL",  "RETRY_GREATER", "RETRY_BELOW", "WRITTEN"};
+        "LONG_STEP",      "RETRY_OLD",  "RETRY_EQUAL",  "RETRY_GREATER", "RETRY_BELOW", "WRITTEN",
+        "SINGLE_READ",    "RUN_READ",   "FAR_READ"};
     static struct vectors vectors = {.draw = {0x5eed}};
 
     if (count == 2 && strcmp(arguments[1], "--layout") == 0) {

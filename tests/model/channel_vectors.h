@@ -33,7 +33,10 @@ enum {
     RETRY_EQUAL = 21,
     RETRY_GREATER = 22,
     RETRY_BELOW = 23,
-    WRITTEN = 24
+    WRITTEN = 24,
+    SINGLE_READ = 25,
+    RUN_READ = 26,
+    FAR_READ = 27
 };
 
 /* The pools that memory is lent from: how many words they have, and how many of them a record can give. */
@@ -90,6 +93,10 @@ struct answer add_step(struct vectors *vectors, struct buffer *buffer, size_t he
 /* Whether a step that led from one channel to another was about a long semaphore: its trigger was taken, or
  * an acquire in one of its modes was tried again. */
 bool is_long_step(const struct channel *before, const struct channel *after, struct answer answer);
+
+/* Counts the read of a word under a kind, where the step from this channel on made one. */
+void count_read(struct vectors *vectors, uint32_t kind, const struct channel *before,
+                const struct lent *lent, struct answer answer);
 
 /* Sets put and adds what comes of it, in the same way. */
 uint32_t add_put(struct buffer *buffer, size_t header, struct channel *channel, uint32_t put);

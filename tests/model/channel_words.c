@@ -613,25 +613,39 @@ static void (*const endings[ENDINGS])(struct text *) = {
 
 /* ---- IB entries ---- */
 
-/* E1, E4, E5: an entry over so many words from a place on, with any of the bits 0, 1 and 40; one in a few has
- * no size, an address beyond the words or a size that goes beyond them. */
-static uint64_t draw_entry(struct draw *draw, uint64_t place, uint64_t size)
+/* S10, E1, E4, E5: an entry over so many words from a place on, with any of the bits 0, 1 and 40; one in a
+ * few has no size, starts beyond the words, at times with a lower half that doesn't, or goes beyond them. */
+static uint64_t draw_entry(struct draw *draw, const struct memory *memory, uint64_t place, uint64_t size)
 {
     uint64_t not_main = draw_below(draw, 2);
     uint64_t ignored = draw_once_in(draw, 3) ? draw_below(draw, 4) : 0;
     uint64_t bit40 = draw_once_in(draw, 4);
-    uint64_t entry = not_main << 41 | bit40 << 40 | ignored;
+    uint64_t address = place << 2;
 
-    switch (draw_below(draw, 150)) {
+    switch (draw_below(draw, 70)) {
     case 0:
-        return entry | place << 2;
+        size = 0;
+        break;
     case 1:
-        return entry | size << 42 | (uint64_t)draw_number(draw) << 8;
+        address = (uint64_t)draw_number(draw) << 8;
+        break;
     case 2:
-        return entry | UINT64_C(0x3fffff) << 42 | place << 2;
+        address |= UINT64_C(1) << (32 + draw_below(draw, 8));
+        break;
+    case 3:
+    case 4:
+        address = memory->word_count << 2;
+        break;
+    case 5:
+        size = 0x3fffff;
+        break;
+    case 6:
+        size = memory->word_count - place + 1;
+        break;
     default:
-        return entry | size << 42 | place << 2;
+        break;
     }
+    return size << 42 | not_main << 41 | bit40 << 40 | address | ignored;
 }
 
 /* S7, S14, E3, E6: entries that cover the words one after the other, wherever commands end, and then start
@@ -649,7 +663,7 @@ static void draw_entries(struct draw *draw, const struct setup *setup, struct me
         uint32_t left = memory->word_count - place;
         uint32_t size = 1 + draw_below(draw, left < longest ? left : longest);
 
-        memory->entries[i] = draw_entry(draw, place, size);
+        memory->entries[i] = draw_entry(draw, memory, place, size);
         place = (place + size) % memory->word_count;
     }
 }

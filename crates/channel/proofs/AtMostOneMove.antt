@@ -20,7 +20,7 @@ use Rattle.channel.specs.declared.record.Channel.{Channel}
 use Rattle.channel.proofs.ByRole.{makes}
 
 -- whatever follows a move leaves its pusher
-finished-carries : (level : Level) (p : Pusher) (q : Puller) (d : Did) (l : PullerLoan) → finished level p q d l .acted .pusher ≡ p
+pub finished-carries : (level : Level) (p : Pusher) (q : Puller) (d : Did) (l : PullerLoan) → finished level p q d l .acted .pusher ≡ p
 unfolding finished
 finished-carries level p q (did.Event e) l = refl
 finished-carries level p q (did.Submit m) l = refl

@@ -11,6 +11,7 @@ pub mod ByRole
 pub mod OpensPlainly
 pub mod StaysWellFormed
 pub mod Promises
+pub mod Limit
 pub mod Apart
 pub mod AtMostOneMove
 pub mod Says

@@ -382,6 +382,41 @@ pub record Steps : Type 0 where
       → length (l .puller .semaphores) ≤ c .puller .long .address / 4
       → Raises c l r exit × (r .channel .pusher ≡ c .pusher) × puller.Failed (c .puller) cause.Semaphore4 (r .channel .puller)
 
+-- S10: two words are lent, the limit is 0, and a step is about to read the word at this address, in this mode
+pub record TwoLent (mode get : ℕ) (c : Channel) (l : Loan) : Type 0 where
+  pub takable : Takable c l
+  pub running : Running c
+  pub no-acquire : c .puller .acquire .active ≡ false
+  pub mode-is : c .setup .setting .mode .number ≡ mode
+  pub limit-is : c .setup .limit ≡ 0
+  pub get-is : c .pusher .get ≡ get
+  pub unequal : c .pusher .get ≡ c .pusher .put → ⊥
+  pub two : length (l .pusher .words) ≡ 2
+
+-- S10: the limit counts in NV04-style alone, the end of the lent words in either mode: an address above that limit, where a word is
+-- lent, and the first where none is
+pub record Limit : Type 0 where
+  -- in NV04-style PROTECTION, where the read address stays, as everything else does
+  pub nv04-style : (c : Channel) (l : Loan) (exit : List ℕ) (r : Stepped) → StepsTo c l r exit → TwoLent 0 4 c l → PusherFails c l (c .pusher) 6 r exit
+  -- in IB mode the word is read, whatever it is: the read address is behind it, and the error, if there is one, another
+  pub ib :
+      (c : Channel) (l : Loan) (exit : List ℕ) (r : Stepped)
+      → StepsTo c l r exit
+      → TwoLent 1 4 c l
+      → (r .channel .pusher .get ≡ 8) × (pusher-record.number (r .channel .pusher .error) ≡ 6 → ⊥)
+  -- behind the two words it is PROTECTION in either
+  pub behind :
+      (mode : ℕ) (c : Channel) (l : Loan) (exit : List ℕ) (r : Stepped)
+      → StepsTo c l r exit
+      → TwoLent mode 8 c l
+      → PusherFails c l (c .pusher) 6 r exit
+  -- and there are such channels, at level 4
+  pub shown :
+      (mode get : ℕ)
+      → mode ≤ 1
+      → ((get ≡ 4) ⊎ (get ≡ 8))
+      → (c : Channel) × (l : Loan) × TwoLent mode get c l × (c .setup .setting .level .number ≡ 4)
+
 -- P32: two channels, and two loans, that differ in the long semaphore and the clock alone
 pub record ButLong (c d : Channel) : Type 0 where
   pub setup : c .setup ≡ d .setup

@@ -12,6 +12,7 @@ use Rattle.pusher.proofs.Promises as pusher
 use Rattle.pusher.proofs.Told as pusher-told
 use Rattle.pusher.proofs.Widths as pusher-widths
 use Rattle.channel.proofs.Apart as channel-apart
+use Rattle.channel.proofs.Limit as channel-limit
 use Rattle.channel.proofs.AtMostOneMove as channel-moves
 use Rattle.channel.proofs.Idling as channel-idling
 use Rattle.channel.proofs.Promises as channel
@@ -77,6 +78,7 @@ second =
       signed = puller.signed;
       puller-apart = puller-apart.apart;
       channel-apart = channel-apart.apart;
+      limit = channel-limit.limit;
       channel-no-other = channel.no-other;
       pusher-no-other = pusher.no-other;
       puller-no-other = puller.no-other;

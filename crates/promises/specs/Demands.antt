@@ -70,6 +70,8 @@ pub record Second : Type 1 where
   pub signed : puller.Signed
   pub puller-apart : puller.Apart
   pub channel-apart : channel.Apart
+  -- the limit, which counts in NV04-style alone, at one address in both modes
+  pub limit : channel.Limit
   -- and the sentences leave no case open
   pub channel-no-other : channel.NoOther
   pub pusher-no-other : pusher.NoOther

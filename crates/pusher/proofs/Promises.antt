@@ -8,7 +8,7 @@ use native.Mathlib.Omega.{arith}
 use lib.Bits.{bitAnd}
 use lib.Dec.{eqb, ltb, leb}
 use lib.ListN.{length, getD}
-use borrow.Author.Tests.{ne-eqb, eqb-true, eqb-false, ltb-true, ltb-false, leb-true, leb-false, lt-ltb, le-ltb, not-true}
+use borrow.Author.Tests.{ne-eqb, eqb-true, eqb-false, leb-true, leb-false, lt-ltb, le-ltb, not-true}
 use Rattle.word.specs.First.{choose}
 use Rattle.word.specs.Parts.{numbersIn}
 use Rattle.word.specs.Special.{presentOf}
@@ -22,7 +22,7 @@ use Rattle.event.specs.declared.Kind.the-variants as kind
 use Rattle.pusher.specs.Loan.{PusherLoan}
 use Rattle.pusher.specs.Record.{number, withRun, withCount, withAwaited}
 use Rattle.pusher.specs.Entry.{parts, entryOf}
-use Rattle.pusher.specs.Moving.{halted, faults, idles, role, act, pushOf, advanced, counted, quietly, failedBy, commanded, begun, conditional, called, returned}
+use Rattle.pusher.specs.Moving.{halted, faults, idles, beyond, act, pushOf, advanced, counted, quietly, failedBy, commanded, begun, conditional, called, returned}
 use Rattle.pusher.specs.Contracts.{Moves}
 use Rattle.pusher.specs.Promises.{Running, ReadsWord, ReadsCommand, IsWord, ParameterRead, CommandRead, Share, EntryNext, EntryRead, sizeIn, Leaves, Fails, Sentences, Pushes, NoOther, Errors, Setters, Lends, One, EntryNumbers}
 use Rattle.pusher.specs.declared.record.Setup.{Setup}
@@ -30,15 +30,11 @@ use Rattle.pusher.specs.declared.record.Run.{Run}
 use Rattle.pusher.specs.declared.record.PusherError.the-variants as cause
 use Rattle.pusher.specs.declared.record.Pusher.{Pusher}
 use Rattle.pusher.specs.declared.moving.Pushed.{Pushed}
-use Rattle.pusher.proofs.Roles.{above-limit, past-words, past-entries, when-halted, when-words, without-ib, without-entries, when-entries}
+use Rattle.pusher.proofs.Roles.{missing, readable, no-word, past-entries, when-halted, when-words, without-ib, without-entries, when-entries}
 use Rattle.pusher.proofs.Share.{share}
 use Rattle.pusher.proofs.Outcomes.{says-of, discards-of, hands-over-of, fails-of, leaves-one, fails-one}
 use Rattle.pusher.proofs.Sentences.{runs, stands, past-of, keeps, by-role, count-is, parameter-is, command-is, non-cache-is, discard-is, submit-is, taken, rises-of, used-up-is, entry-is, empty-is, not-main-is, main-is}
 use Rattle.pusher.proofs.Told.{error-numbered}
-
--- S10: above the limit, or beyond the lent words
-beyond-is : (s : Setup) (p : Pusher) (l : PusherLoan) → Running p → (p .get ≡ p .put → ⊥) → ((s .limit < p .get) ⊎ (length (l .words) ≤ p .get / 4)) → role s p l ≡ faults
-beyond-is s p l run n h = when-words s p l (runs (p .error) run) n ∙ ⊎-elim (above-limit s p (l .words)) (past-words s p (l .words)) h
 
 counted-is : (q : Pusher) (r : Run) (w : ℕ) → q .run ≡ r → counted q w ≡ quietly (withRun q (withAwaited (withCount r (w % 2 ^ 24)) false)) kind.Count
 unfolding counted
@@ -91,7 +87,7 @@ pushes =
       idle = λ s p l r m run e h.
           let go = runs (p .error) run in
           says-of kind.Idle (m ∙ by-role s p l idles (⊎-elim (without-ib s p l go e) (without-entries s p l go e) h));
-      protection = λ s p l r m run n h. fails-of cause.Protection (m ∙ by-role s p l faults (beyond-is s p l run n h));
+      protection = λ s p l r m run n h. fails-of cause.Protection (m ∙ by-role s p l faults (when-words s p l (runs (p .error) run) n ∙ no-word s p (l .words) h));
       count = λ s p q l w r m rd e past.
           says-of kind.Count (m ∙ count-is s p l q w rd e past ∙ counted-is q (p .run) w (keeps s p q past .run));
       non-cache = λ s p q l w r m rd no.
@@ -234,12 +230,11 @@ module _ (R : Setup → Pusher → PusherLoan → Pushed → Type 0) (h : Senten
           parameter _ (record { read = record { word = rd; unawaited = e; left = eqb-false _ _ f }; word = refl; past = past-of s p })
 
   unread : Running p → (p .get ≡ p .put → ⊥) → Moves s p l r
-  unread run n = go (ltb (s .limit) (p .get)) (leb (length (l .words)) (p .get / 4)) refl refl
+  unread run n = go (beyond s p (l .words)) refl
     where
-      go : (a b : Bool) → ltb (s .limit) (p .get) ≡ a → leb (length (l .words)) (p .get / 4) ≡ b → Moves s p l r
-      go true b e f = fails (λ Q k y a. k .protection s p l y a run n (inl (ltb-true _ _ e)))
-      go false true e f = fails (λ Q k y a. k .protection s p l y a run n (inr (leb-true _ _ f)))
-      go false false e f = word (record { running = run; unequal = n; limit = ltb-false _ _ e; lent = leb-false _ _ f })
+      go : (b : Bool) → beyond s p (l .words) ≡ b → Moves s p l r
+      go true e = fails (λ Q k y a. k .protection s p l y a run n (missing s p (l .words) .0 e))
+      go false e = let at = readable s p (l .words) .0 e in word (record { running = run; unequal = n; limit = at .0; lent = at .1 })
 
   -- an entry
   entry : EntryNext s p → Moves s p l r

@@ -1,47 +1,61 @@
 -- Which role a move has, by the tests that decide it; and what a role knows. Assumes nothing.
 use Prim.Native.Nat.{ℕ, _/_, _≤_, _<_}
 use mathlib.Core.Path.{_≡_, refl, sym, ap, _∙_}
-use mathlib.Core.Bool.{Bool, true, false, not, _&&_, _||_, and-false, or-true, false≢true}
+use mathlib.Core.Bool.{Bool, true, false, not, _&&_, _||_, and-false, false≢true}
 use mathlib.Core.List.{List}
-use mathlib.Core.Logic.{_⊎_, inl, inr, ⊎-elim}
+use mathlib.Core.Logic.{_⊎_, inl, inr, ⊎-elim, _↔_}
 use lib.Dec.{eqb}
 use lib.ListN.{length}
-use borrow.Author.Tests.{lt-ltb, le-ltb, le-leb, lt-leb, eq-eqb, ne-eqb, ltb-false, leb-true, leb-false, eqb-true, eqb-false, not-true, not-false}
+use borrow.Author.Tests.{le-ltb, le-leb, lt-leb, eq-eqb, ne-eqb, ltb-false, leb-true, leb-false, eqb-true, eqb-false, not-true, not-false}
 use Rattle.word.specs.First.{choose}
 use Rattle.word.proofs.First.{by-test, choose-true, choose-false}
-use Rattle.word.proofs.Tests.{both, or-plain, less-plain, most-plain}
+use Rattle.word.proofs.Tests.{both, not-plain, or-plain, and-plain, less-plain, equal-plain, most-plain}
 use Rattle.pusher.specs.Loan.{PusherLoan}
 use Rattle.pusher.specs.Record.{halts}
 use Rattle.pusher.specs.Moving.{Role, halted, faults, counts, submits, commands, enters, idles, beyond, wordRole, entryRole, role}
 use Rattle.pusher.specs.declared.record.Setup.{Setup}
 use Rattle.pusher.specs.declared.record.Pusher.{Pusher}
 
+-- a test of two that fails
+neither : (a b : Bool) → (a || b) ≡ false → (a ≡ false) × (b ≡ false)
+neither true b e = absurd (false≢true (sym e))
+neither false b e = (refl, e)
+
+-- a test that counts only where another fails
+unless : (a b : Bool) {P Q : Type 0} → a ≡ true ↔ P → b ≡ false ↔ Q → (not a && b) ≡ false ↔ ((P → ⊥) → Q)
+unless true b p q = (λ e n. absurd (n (p .0 refl)), λ h. refl)
+unless false b p q = (λ e n. q .0 e, λ h. q .1 (h (λ x. false≢true (p .1 x))))
+
 -- where a word is to be read
 module _ (s : Setup) (p : Pusher) (ws : List ℕ) where
-  pub above-limit : s .limit < p .get → wordRole s p ws ≡ faults
+  -- S10: it is not there, or it is
+  pub missing : beyond s p ws ≡ true ↔ (((s .setting .mode .number ≡ 1 → ⊥) × (s .limit < p .get)) ⊎ (length ws ≤ p .get / 4))
+  missing = or-plain _ _ (and-plain _ _ (not-plain _ (equal-plain _ _)) (less-plain _ _)) (most-plain _ _)
+
+  pub readable : beyond s p ws ≡ false ↔ (((s .setting .mode .number ≡ 1 → ⊥) → p .get ≤ s .limit) × (p .get / 4 < length ws))
+  readable =
+      let limit = unless _ _ (equal-plain (s .setting .mode .number) 1) (ltb-false (s .limit) (p .get), le-ltb _ _) in (
+        λ b. let n = neither _ _ b in (limit .0 (n .0), leb-false _ _ (n .1)),
+        λ h. rw (limit .1 (h .0), lt-leb _ _ (h .1)),
+      )
+
+  pub no-word : ((s .setting .mode .number ≡ 1 → ⊥) × (s .limit < p .get)) ⊎ (length ws ≤ p .get / 4) → wordRole s p ws ≡ faults
   unfolding wordRole
-  above-limit h = choose-true (rw (lt-ltb _ _ h)) _ _
+  no-word h = choose-true (missing .1 h) _ _
 
-  pub past-words : length ws ≤ p .get / 4 → wordRole s p ws ≡ faults
-  unfolding wordRole
-  past-words h = choose-true (rw (le-leb _ _ h, or-true)) _ _
-
-  module _ (low : p .get ≤ s .limit) (lent : p .get / 4 < length ws) where
-    there : beyond s p ws ≡ false
-    there = rw (le-ltb _ _ low, lt-leb _ _ lent)
-
+  module _ (low : (s .setting .mode .number ≡ 1 → ⊥) → p .get ≤ s .limit) (lent : p .get / 4 < length ws) where
     pub awaits-count : p .run .awaited ≡ true → wordRole s p ws ≡ counts
     unfolding wordRole
-    awaits-count a = choose-false there _ _ ∙ choose-true a _ _
+    awaits-count a = choose-false (readable .1 (low, lent)) _ _ ∙ choose-true a _ _
 
     module _ (a : p .run .awaited ≡ false) where
       pub inside-run : (p .run .count ≡ 0 → ⊥) → wordRole s p ws ≡ submits
       unfolding wordRole
-      inside-run n = choose-false there _ _ ∙ choose-false a _ _ ∙ choose-true (ap not (ne-eqb _ _ n)) _ _
+      inside-run n = choose-false (readable .1 (low, lent)) _ _ ∙ choose-false a _ _ ∙ choose-true (ap not (ne-eqb _ _ n)) _ _
 
       pub between-runs : p .run .count ≡ 0 → wordRole s p ws ≡ commands
       unfolding wordRole
-      between-runs n = choose-false there _ _ ∙ choose-false a _ _ ∙ choose-false (ap not (eq-eqb _ _ n)) _ _
+      between-runs n = choose-false (readable .1 (low, lent)) _ _ ∙ choose-false a _ _ ∙ choose-false (ap not (eq-eqb _ _ n)) _ _
 
 -- where an entry is
 module _ (p : Pusher) (es : List ℕ) where
@@ -81,7 +95,7 @@ module _ (s : Setup) (p : Pusher) (l : PusherLoan) where
 -- the word that is read, and the entry that comes next
 pub record AtWord (s : Setup) (p : Pusher) (l : PusherLoan) : Type 0 where
   pub unequal : p .get ≡ p .put → ⊥
-  pub low : p .get ≤ s .limit
+  pub low : (s .setting .mode .number ≡ 1 → ⊥) → p .get ≤ s .limit
   pub lent : p .get / 4 < length (l .words)
 
 pub record AtEntry (s : Setup) (p : Pusher) : Type 0 where
@@ -101,11 +115,6 @@ Facts s p l commands = (halts (p .error) ≡ false) × AtWord s p l × (p .run .
 Facts s p l enters = (halts (p .error) ≡ false) × AtEntry s p × (p .ib .get < length (l .entries))
 Facts s p l idles = (halts (p .error) ≡ false) × (p .get ≡ p .put) × ((s .setting .mode .number ≡ 1 → ⊥) ⊎ (p .ib .get ≡ p .ib .put))
 
--- a test of two that fails
-neither : (a b : Bool) → (a || b) ≡ false → (a ≡ false) × (b ≡ false)
-neither true b e = absurd (false≢true (sym e))
-neither false b e = (refl, e)
-
 not-both : (a b : Bool) → a && b ≡ false → (a ≡ false) ⊎ (b ≡ false)
 not-both true b e = inr e
 not-both false b e = inl refl
@@ -115,10 +124,10 @@ module _ (s : Setup) (p : Pusher) (l : PusherLoan) where
     word-facts : (p .get ≡ p .put → ⊥) → Facts s p l (wordRole s p (l .words))
     unfolding wordRole
     word-facts n =
-        by-test (Facts s p l) (λ b. (runs, inl (n, or-plain _ _ (less-plain _ _) (most-plain _ _) .0 b)))
+        by-test (Facts s p l) (λ b. (runs, inl (n, ⊎-elim (λ h. inl (h .1)) (λ h. inr h) (missing s p (l .words) .0 b))))
         (λ b.
-        let lent = neither _ _ b in
-        let w : AtWord s p l = record { unequal = n; low = ltb-false _ _ (lent .0); lent = leb-false _ _ (lent .1) } in
+        let at = readable s p (l .words) .0 b in
+        let w : AtWord s p l = record { unequal = n; low = at .0; lent = at .1 } in
         by-test (Facts s p l) (λ a. (runs, w, a))
         (λ a. by-test (Facts s p l) (λ k. (runs, w, a, eqb-false _ _ (not-true _ k))) (λ k. (runs, w, a, eqb-true _ _ (not-false _ k)))))
 

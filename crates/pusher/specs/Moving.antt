@@ -39,9 +39,9 @@ pub data Role : Type 0 where
   -- S8: there is nothing to read
   idles : Role
 
--- S10: the limit, in either mode, or the lent words end before the word
+-- S10: the limit, in NV04-style alone, or the lent words, in either mode, end before the word
 abbrev pub beyond : Setup → Pusher → List ℕ → Bool
-beyond s p ws = ltb (s .limit) (p .get) || leb (length ws) (p .get / 4)
+beyond s p ws = (not (eqb (s .setting .mode .number) 1) && ltb (s .limit) (p .get)) || leb (length ws) (p .get / 4)
 
 -- S14: what the word is, by what is open
 unfoldable pub wordRole : Setup → Pusher → List ℕ → Role

@@ -35,11 +35,11 @@ Running p = number (p .error) ≡ 0
 abbrev pub InIb : Setup → Type 0
 InIb s = s .setting .mode .number ≡ 1
 
--- S6, S9, S10: a word is read, the one at the read address, neither above the limit nor beyond the lent words
+-- S6, S9, S10: a word is read, the one at the read address, in NV04-style not above the limit, and in no mode beyond the lent words
 pub record ReadsWord (s : Setup) (p : Pusher) (l : PusherLoan) : Type 0 where
   pub running : Running p
   pub unequal : p .get ≡ p .put → ⊥
-  pub limit : p .get ≤ s .limit
+  pub limit : (InIb s → ⊥) → p .get ≤ s .limit
   pub lent : p .get / 4 < length (l .words)
 
 -- S14: it is read as a count
@@ -182,7 +182,7 @@ pub record Sentences (R : Setup → Pusher → PusherLoan → Pushed → Type 0)
       → R s p l r
       → Running p
       → (p .get ≡ p .put → ⊥)
-      → ((s .limit < p .get) ⊎ (length (l .words) ≤ p .get / 4))
+      → (((InIb s → ⊥) × (s .limit < p .get)) ⊎ (length (l .words) ≤ p .get / 4))
       → Fails p 6 r
   -- S15: the word becomes the count
   pub count :

@@ -1,6 +1,6 @@
 // One move of the pusher.
 ghost use mathlib.Core.Path.{_≡_};
-ghost use Prim.Native.Nat.{_≤_, _<_};
+ghost use Prim.Native.Nat.{_+_, _≤_, _<_};
 ghost use Rattle.word.specs.Reading.{number, readOf};
 ghost use Rattle.word.specs.Promises.{Within};
 ghost use Rattle.pusher.specs.Loan.{PusherLoan, toPusher, withWords, withEntries};
@@ -67,13 +67,14 @@ fn failed(pusher: Pusher, error: PusherError) -> Pushed
     quiet(pusher.with_error(error), Kind::Error)
 }
 
-// Reads the word at the read address, unless that is above the limit or beyond the lent words,
-// whatever else is lent.
+// Reads the word at the read address, unless that is above the limit, which counts in NV04-style
+// alone, or beyond the lent words, whatever else is lent.
 fn word(setup: Setup, pusher: Pusher, words: &[u32]) -> Pushed
     ensures { λ r. ⌜ ((l : PusherLoan) → r ≡ act setup pusher (withWords l (now (words .entry))) (wordRole setup pusher (now (words .entry)))) ⌝ }
 {
     let get = pusher.get;
-    if (setup.limit as u64) < get {
+    let mode = setup.setting.mode.number;
+    if mode != Mode::IB.number && (setup.limit as u64) < get {
         return failed(pusher, PusherError::Protection);
     }
     let place = (get / 4) as usize;
@@ -91,9 +92,10 @@ fn word(setup: Setup, pusher: Pusher, words: &[u32]) -> Pushed
     command(setup, next, word)
 }
 
-// The advance (S11); in IB mode dma_mget follows it where the words are main (S12).
+// The advance (S11), which can't overflow behind a lent word; in IB mode dma_mget follows it where the
+// words are main (S12).
 fn advance(setup: Setup, pusher: Pusher) -> Pusher
-    requires { ⌜ pusher .get ≤ 0xffffffff ⌝ }
+    requires { ⌜ pusher .get + 4 ≤ 0xffffffffffffffff ⌝ }
     ensures { λ r. ⌜ r ≡ advanced setup pusher ⌝ }
 {
     let past = pusher.get + 4;
