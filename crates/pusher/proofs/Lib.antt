@@ -7,6 +7,7 @@ pub mod Told
 pub mod Outcomes
 pub mod Sentences
 pub mod ReadsAs
+pub mod InIb
 pub mod Promises
 pub mod Failing
 pub mod Widths

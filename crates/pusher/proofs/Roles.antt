@@ -13,6 +13,7 @@ use Rattle.word.proofs.Tests.{both, not-plain, or-plain, and-plain, less-plain,
 use Rattle.pusher.specs.Loan.{PusherLoan}
 use Rattle.pusher.specs.Record.{halts}
 use Rattle.pusher.specs.Moving.{Role, halted, faults, counts, submits, commands, enters, idles, beyond, wordRole, entryRole, role}
+use Rattle.pusher.specs.Promises.{InIb, NoWord}
 use Rattle.pusher.specs.declared.record.Setup.{Setup}
 use Rattle.pusher.specs.declared.record.Pusher.{Pusher}
 
@@ -29,21 +30,21 @@ unless false b p q = (λ e n. q .0 e, λ h. q .1 (h (λ x. false≢true (p .1 x)
 -- where a word is to be read
 module _ (s : Setup) (p : Pusher) (ws : List ℕ) where
   -- S10: it is not there, or it is
-  pub missing : beyond s p ws ≡ true ↔ (((s .setting .mode .number ≡ 1 → ⊥) × (s .limit < p .get)) ⊎ (length ws ≤ p .get / 4))
+  pub missing : beyond s p ws ≡ true ↔ NoWord s p ws
   missing = or-plain _ _ (and-plain _ _ (not-plain _ (equal-plain _ _)) (less-plain _ _)) (most-plain _ _)
 
-  pub readable : beyond s p ws ≡ false ↔ (((s .setting .mode .number ≡ 1 → ⊥) → p .get ≤ s .limit) × (p .get / 4 < length ws))
+  pub readable : beyond s p ws ≡ false ↔ (((InIb s → ⊥) → p .get ≤ s .limit) × (p .get / 4 < length ws))
   readable =
       let limit = unless _ _ (equal-plain (s .setting .mode .number) 1) (ltb-false (s .limit) (p .get), le-ltb _ _) in (
         λ b. let n = neither _ _ b in (limit .0 (n .0), leb-false _ _ (n .1)),
         λ h. rw (limit .1 (h .0), lt-leb _ _ (h .1)),
       )
 
-  pub no-word : ((s .setting .mode .number ≡ 1 → ⊥) × (s .limit < p .get)) ⊎ (length ws ≤ p .get / 4) → wordRole s p ws ≡ faults
+  pub no-word : NoWord s p ws → wordRole s p ws ≡ faults
   unfolding wordRole
   no-word h = choose-true (missing .1 h) _ _
 
-  module _ (low : (s .setting .mode .number ≡ 1 → ⊥) → p .get ≤ s .limit) (lent : p .get / 4 < length ws) where
+  module _ (low : (InIb s → ⊥) → p .get ≤ s .limit) (lent : p .get / 4 < length ws) where
     pub awaits-count : p .run .awaited ≡ true → wordRole s p ws ≡ counts
     unfolding wordRole
     awaits-count a = choose-false (readable .1 (low, lent)) _ _ ∙ choose-true a _ _
@@ -95,7 +96,7 @@ module _ (s : Setup) (p : Pusher) (l : PusherLoan) where
 -- the word that is read, and the entry that comes next
 pub record AtWord (s : Setup) (p : Pusher) (l : PusherLoan) : Type 0 where
   pub unequal : p .get ≡ p .put → ⊥
-  pub low : (s .setting .mode .number ≡ 1 → ⊥) → p .get ≤ s .limit
+  pub low : (InIb s → ⊥) → p .get ≤ s .limit
   pub lent : p .get / 4 < length (l .words)
 
 pub record AtEntry (s : Setup) (p : Pusher) : Type 0 where

@@ -101,7 +101,7 @@ module _ (s : Setup) (p : Pusher) (l : PusherLoan) where
   word-role : ReadsWord s p l → role s p l ≡ wordRole s p (l .words)
   word-role h = when-words s p l (runs (p .error) (h .running)) (h .unequal)
 
-  count-role : ReadsCount s p l → role s p l ≡ counts
+  pub count-role : ReadsCount s p l → role s p l ≡ counts
   count-role h = word-role (h .word) ∙ awaits-count s p (l .words) (h .word .limit) (h .word .lent) (h .awaited)
 
   pub parameter-role : ReadsParameter s p l → role s p l ≡ submits

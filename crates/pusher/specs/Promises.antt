@@ -35,6 +35,10 @@ Running p = number (p .error) ≡ 0
 abbrev pub InIb : Setup → Type 0
 InIb s = s .setting .mode .number ≡ 1
 
+-- S10: there is no word to read: above the limit, which counts in NV04-style alone, or beyond the lent words
+abbrev pub NoWord : Setup → Pusher → List ℕ → Type 0
+NoWord s p ws = ((InIb s → ⊥) × (s .limit < p .get)) ⊎ (length ws ≤ p .get / 4)
+
 -- S6, S9, S10: a word is read, the one at the read address, in NV04-style not above the limit, and in no mode beyond the lent words
 pub record ReadsWord (s : Setup) (p : Pusher) (l : PusherLoan) : Type 0 where
   pub running : Running p
@@ -182,7 +186,7 @@ pub record Sentences (R : Setup → Pusher → PusherLoan → Pushed → Type 0)
       → R s p l r
       → Running p
       → (p .get ≡ p .put → ⊥)
-      → (((InIb s → ⊥) × (s .limit < p .get)) ⊎ (length (l .words) ≤ p .get / 4))
+      → NoWord s p (l .words)
       → Fails p 6 r
   -- S15: the word becomes the count
   pub count :

@@ -1,17 +1,18 @@
 use Prim.Native.Nat.{_≤_}
-use mathlib.Core.Path.{_≡_, sym, ap, _∙_}
+use mathlib.Core.Path.{sym, ap, _∙_}
 use mathlib.Core.Logic.{inl, inr, ⊎-elim}
 use native.Mathlib.Omega.{arith}
 use borrow.Author.Needs.{needs}
 use borrow.Author.Tests.{ltb-true, ltb-false}
 use Rattle.pusher.specs.Moving.{act}
+use Rattle.pusher.specs.Promises.{InIb}
 use Rattle.pusher.proofs.Roles.{no-word, awaits-count, inside-run, between-runs}
 use Rattle.pusher.proofs.PastWord.{advanced-only}
 use Rattle.pusher.proofs.moving.word.Statement.{statement}
 use Rattle.pusher.proofs.moving.word.Tie as tie
 
 -- the limit has stopped nothing: in IB mode, or within it
-low : (c : tie.Joined1) → let a = c .before .before .before .args in (a .setup .setting .mode .number ≡ 1 → ⊥) → a .pusher .get ≤ a .setup .limit
+low : (c : tie.Joined1) → let a = c .before .before .before .args in (InIb (a .setup) → ⊥) → a .pusher .get ≤ a .setup .limit
 low c n = ⊎-elim (λ x. ltb-false _ _ (x .2 .left)) (λ x. absurd (n (x .left))) (c .if1 .came)
 
 pub word-spec : {M : Type 1} → statement M
