@@ -133,7 +133,7 @@ module _ (c : Channel) (l : Loan) (exit : List ℕ) (r : Stepped) (m : StepsTo c
     abbrev follows : Pushed → Effect
     follows x = finished (c .setup .setting .level) (x .pusher) (c .puller) (x .did) (l .puller)
 
-    moved-is : (x : Pushed) → MakesMove c (l .pusher) x → (r ≡ actedOn c (follows x) .stepped) × (exit ≡ follows x .memory)
+    pub moved-is : (x : Pushed) → MakesMove c (l .pusher) x → (r ≡ actedOn c (follows x) .stepped) × (exit ≡ follows x .memory)
     unfolding act
     moved-is x k = rw (k .move) (leaves (by-role c l h moves (goes-on c _ x k)))
 

@@ -1,6 +1,6 @@
 -- `Limit`: which of two lent words a step reads, with a limit of 0. Assumes nothing.
 use Prim.Native.Nat.{ℕ, zero, suc, _+_, _/_, _≤_, _<_}
-use mathlib.Core.Path.{_≡_, refl, _∙_}
+use mathlib.Core.Path.{_≡_, refl, ap, _∙_}
 use mathlib.Core.Bool.{true, false}
 use mathlib.Core.List.{List, [], _∷_}
 use mathlib.Core.Logic.{_⊎_, inl, inr, ⊎-elim}
@@ -19,41 +19,34 @@ use Rattle.pusher.proofs.Promises.{pushes}
 use Rattle.channel.specs.Loan.{Loan, toStep}
 use Rattle.channel.specs.Opening.{restingAt, setupWith}
 use Rattle.channel.specs.State.{setupFits, within, addressBits, aligned, enginesFit, wellFormed}
-use Rattle.channel.specs.Stepping as stepping
 use Rattle.channel.specs.Contracts.{StepsTo}
-use Rattle.channel.specs.Promises.{MakesMove, PusherFails, TwoLent, Limit}
+use Rattle.channel.specs.Promises.{PusherFails, TwoLent, Limit}
 use Rattle.channel.specs.declared.record.Channel.{Channel}
 use Rattle.channel.specs.declared.stepping.Stepped.{Stepped}
 use Rattle.channel.proofs.Formed.{formed}
-use Rattle.channel.proofs.ByRole.{by-role, goes-on}
+use Rattle.channel.proofs.ByRole.{moved-is}
 use Rattle.channel.proofs.AtMostOneMove.{finished-carries}
-use Rattle.channel.proofs.Promises.{says, steps}
+use Rattle.channel.proofs.Promises.{steps}
 
 module _ (mode get : ℕ) (c : Channel) (l : Loan) (exit : List ℕ) (r : Stepped) (h : StepsTo c l r exit) (t : TwoLent mode get c l) where
   abbrev move : Pushed
   move = pushOf (c .setup) (c .pusher) (l .pusher)
 
-  makes : MakesMove c (l .pusher) move
-  makes = record { running = t .running; no-acquire = t .no-acquire; move = refl }
+  -- the step makes the pusher's move, and leaves the pusher of that
+  carried : r .channel .pusher ≡ move .pusher
+  carried =
+      let made = moved-is c l exit r h (t .takable) move (record { running = t .running; no-acquire = t .no-acquire; move = refl }) in
+      ap (λ (x : Stepped). x .channel .pusher) (made .0) ∙ finished-carries _ (move .pusher) (c .puller) (move .did) (l .puller)
 
   -- where there is no word
   fails : NoWord (c .setup) (c .pusher) (l .pusher .words) → PusherFails c l (c .pusher) 6 r exit
   fails n =
       let f = pushes .protection (c .setup) (c .pusher) (l .pusher) move refl (t .running .0) (t .unequal) n in
-      let left = says .move c l exit _ move r h (t .takable) makes (f .did) in
-      record {
-        raises = record { says = left .0 .says; setup = left .0 .channel .setup; memory = left .1 };
-        pusher = rw (left .0 .channel .pusher) (f .pusher);
-        puller = left .0 .channel .puller;
-      }
+      steps .protection-error c l exit r h (t .takable) (t .running) (rw carried (f .pusher .error))
 
   -- where one is lent, and the mode doesn't ask for the limit
   reads : InIb (c .setup) → c .pusher .get / 4 < length (l .pusher .words) → r .channel .pusher .get ≡ c .pusher .get + 4
-  unfolding stepping.act
-  reads ib lent =
-      let step = by-role c l (t .takable) stepping.moves (goes-on c (l .pusher) move makes) in
-      rw (h .answer, step, finished-carries _ (move .pusher) (c .puller) (move .did) (l .puller))
-      (read-on (c .setup) (c .pusher) (l .pusher) ib (record { running = t .running .0; unequal = t .unequal; limit = λ n. absurd (n ib); lent = lent }))
+  reads ib lent = rw carried (read-on (c .setup) (c .pusher) (l .pusher) ib (record { running = t .running .0; unequal = t .unequal; limit = λ n. absurd (n ib); lent = lent }))
 
 -- a channel at level 4 that is about to read, and two words
 abbrev reader : ℕ → ℕ → Channel

@@ -28,19 +28,19 @@ Stays q r = r .pusher .get ≡ q .get
 
 -- W4, W6, W7, W8: what sets the read address is no command of IB mode
 module _ (s : Setting) (w : ℕ) (ib : s .mode .number ≡ 1) (q : Pusher) where
-  stands : (x : Reading) → x ≡ readOf s w 0 → (reading.number x ≡ 10 → ⊥) → Each (ReadsAs x) (rows s w 0)
-  stands x e n = forms .each s w 0 x e (λ h. n (forms .refused s w 0 x e .0 .1 h))
+  away : {P : Type 0} (x : Reading) → x ≡ readOf s w 0 → (reading.number x ≡ 10 → ⊥) → (Each (ReadsAs x) (rows s w 0) → s .mode .number ≡ 0) → P
+  away x e n f = absurd (omega (arith, f (forms .each s w 0 x e (λ h. n (forms .refused s w 0 x e .0 .1 h)))))
 
   command-stays : (x : Reading) → x ≡ readOf s w 0 → Stays q (commanded q x)
   unfolding commanded begun conditional reading.number
   command-stays (Increasing c b m) e = by-test (Stays q) (λ t. refl) (λ t. refl)
   command-stays (NonIncreasing c b m) e = by-test (Stays q) (λ t. refl) (λ t. refl)
   command-stays (Sli k) e = refl
-  command-stays Return e = let x = stands Return e (λ n. omega arith) in absurd (omega (arith, x .1 .1 .1 .0 .exactly .0 refl .1 .1))
+  command-stays Return e = away Return e (λ n. omega arith) (λ x. x .1 .1 .1 .0 .exactly .0 refl .1 .1)
   command-stays (Long b m c) e = refl
-  command-stays (OldJump t) e = let x = stands (OldJump t) e (λ n. omega arith) in absurd (omega (arith, x .1 .1 .1 .1 .1 .0 .exactly .0 refl .1))
-  command-stays (Jump t) e = let x = stands (Jump t) e (λ n. omega arith) in absurd (omega (arith, x .1 .1 .1 .1 .1 .1 .0 .exactly .0 refl .1 .1))
-  command-stays (Call t) e = let x = stands (Call t) e (λ n. omega arith) in absurd (omega (arith, x .1 .1 .1 .1 .1 .1 .1 .0 .exactly .0 refl .1 .1))
+  command-stays (OldJump t) e = away (OldJump t) e (λ n. omega arith) (λ x. x .1 .1 .1 .1 .1 .0 .exactly .0 refl .1)
+  command-stays (Jump t) e = away (Jump t) e (λ n. omega arith) (λ x. x .1 .1 .1 .1 .1 .1 .0 .exactly .0 refl .1 .1)
+  command-stays (Call t) e = away (Call t) e (λ n. omega arith) (λ x. x .1 .1 .1 .1 .1 .1 .1 .0 .exactly .0 refl .1 .1)
   command-stays Reserved e = refl
   command-stays (Refused n) e = refl
 
