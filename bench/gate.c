@@ -6,7 +6,7 @@
  * that a word is looked at as a parameter at most once for each state, and the first reason ends the
  * judgement. So the worst maps mark every command for both states and give no reason before the end. Under
  * them the worst words are the shortest commands, of which there are most, drawn so that none foretells the
- * next; and runs that come to a method below 0x100, so that each parameter is asked for as a special method
+ * next; and runs that go to a method below 0x100, so that each parameter is asked for as a special method
  * too. */
 #include <inttypes.h>
 #include <stdio.h>
@@ -58,26 +58,22 @@ static uint32_t fitting(uint32_t most, uint32_t place, uint32_t end)
     return most < left ? most : left;
 }
 
+typedef uint32_t run_function(uint32_t count, uint32_t method);
+
 /* Runs of so many parameters, one after the other; the last has what is left. */
-static void put_runs(uint32_t end, uint32_t most, uint32_t method, uint8_t mark)
+static void put_runs_of(run_function *run, uint32_t end, uint32_t most, uint32_t method, uint8_t mark)
 {
     uint32_t count;
 
     for (uint32_t place = 0; place < end; place += 1 + count) {
         count = fitting(most, place, end);
-        put(place, increasing(count, method), mark);
+        put(place, run(count, method), mark);
     }
 }
 
-/* The same, with rising methods of which the last one's is 0, after 0x1ffc. */
-static void put_wrapping_runs(uint32_t end, uint32_t most, uint8_t mark)
+static void put_runs(uint32_t end, uint32_t most, uint32_t method, uint8_t mark)
 {
-    uint32_t count;
-
-    for (uint32_t place = 0; place < end; place += 1 + count) {
-        count = fitting(most, place, end);
-        put(place, increasing(count, 4 * ((METHODS + 1 - count) % METHODS)), mark);
-    }
+    put_runs_of(increasing, end, most, method, mark);
 }
 
 /* Inside a subroutine the end must not be reached: the last word leads back to place 0. */
@@ -183,13 +179,13 @@ static void give_short_for_both(uint32_t size)
 
 static void give_ones_for_both(uint32_t size)
 {
-    put_wrapping_runs(size - 1, 1, STATE_BOTH);
+    put_runs(size - 1, 1, 0, STATE_BOTH);
     put_way_back(size);
 }
 
-static void give_wrapping_for_both(uint32_t size)
+static void give_long_for_both(uint32_t size)
 {
-    put_wrapping_runs(size - 1, 1023, STATE_BOTH);
+    put_runs_of(non_increasing, size - 1, 1023, 0, STATE_BOTH);
     put_way_back(size);
 }
 
@@ -219,7 +215,7 @@ static const struct shape shapes[] = {
     {"both states: jumps anywhere", give_jumps_for_both, REASON_NONE},
     {"both states: jumps and no parameters", give_short_for_both, REASON_NONE},
     {"both states: runs of 1 to method 0", give_ones_for_both, REASON_NONE},
-    {"both states: runs of 1,023 to method 0", give_wrapping_for_both, REASON_NONE},
+    {"both states: runs of 1,023 to method 0", give_long_for_both, REASON_NONE},
 };
 
 enum { SHAPES = sizeof shapes / sizeof shapes[0] };

@@ -47,6 +47,8 @@ static const char *const reasons[] = {
         "state.",
     [UPBORLIYA_REASON_END_INSIDE] =
         "After this command the words end inside a subroutine, without a return.",
+    [UPBORLIYA_REASON_WRAPS] =
+        "The parameters of this command go past method 0x1ffc, the last one, and on to method 0.",
 };
 
 enum {

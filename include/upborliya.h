@@ -43,7 +43,8 @@ enum {
     UPBORLIYA_REASON_MARKED_PARAMETER = 9, /* a parameter is marked as a command start */
     UPBORLIYA_REASON_TARGET_PAST = 10,     /* a jump or call past the end of the words */
     UPBORLIYA_REASON_NOT_MARKED = 11,      /* the command goes on at a place not marked for its state */
-    UPBORLIYA_REASON_END_INSIDE = 12       /* the words end inside a subroutine */
+    UPBORLIYA_REASON_END_INSIDE = 12,      /* the words end inside a subroutine */
+    UPBORLIYA_REASON_WRAPS = 13            /* an increasing run goes past method 0x1ffc, on to method 0 */
 };
 
 /* The refusals; the numbers between them are not given here. Each function has its own, tried in this order:

@@ -56,13 +56,22 @@ static bool is_permitted(const struct code *code, uint32_t subchannel, uint32_t 
     return (code->permit[METHOD_BYTES * subchannel + method / 8] >> method % 8 & 1) != 0;
 }
 
-/* G6, G7, G8, G26: reasons 6 to 8, each of them for all parameters before the next. */
+/* G13: whether a run would go past the last method, on to method 0. With count 0 it can't: a method's number
+ * alone is below that. */
+static bool is_wrapping(struct reading command)
+{
+    return command.number == READING_INCREASING && command.value[2] / 4 + command.value[0] > METHODS;
+}
+
+/* G6, G7, G8, G13, G26: reasons 6, 13, 7 and 8, each of them for all parameters before the next. */
 static uint32_t run_reason(const struct code *code, uint32_t place, struct reading command)
 {
     uint32_t count = command.value[0];
 
     if (count > code->count - (place + 1))
         return REASON_PARAMETERS;
+    if (is_wrapping(command))
+        return REASON_WRAPS;
     for (uint32_t k = 0; k < count; k++)
         if (!model_present(code->setting.level, method_of(command, k)))
             return REASON_NON_CACHE;
@@ -72,7 +81,7 @@ static uint32_t run_reason(const struct code *code, uint32_t place, struct readi
     return REASON_NONE;
 }
 
-/* G3, G4, G5: reasons 3 to 8, of which 6 to 8 are those of a run. The long form is reserved in NV04-style. */
+/* G3, G4, G5: reasons 3 to 5, and those of a run. The long form is reserved in NV04-style. */
 static uint32_t command_reason(const struct code *code, struct pair pair, struct reading command)
 {
     switch (command.number) {

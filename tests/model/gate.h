@@ -5,7 +5,7 @@
 
 #include "word.h"
 
-/* G1, G2, G3, G4, G5, G6, G7, G8, G9, G10, G11, G12: the reasons by their numbers; 0 stands for none. */
+/* G1 to G13: the reasons by their numbers; 0 stands for none. */
 enum {
     REASON_NONE = 0,
     REASON_MAP_BYTE = 1,
@@ -20,6 +20,7 @@ enum {
     REASON_TARGET = 10,
     REASON_UNMARKED = 11,
     REASON_END = 12,
+    REASON_WRAPS = 13,
     REASON_COUNT
 };
 
@@ -79,8 +80,8 @@ struct follow {
     struct pair next[2];
 };
 
-/* G26, H2: the first of the reasons 3 to 12 that a pair has, and what follows its command. Without a map, 9
- * and 11 are not tried: what is left are those that the path rule names. */
+/* G26, H2: the first of the reasons 3 to 13 that a pair has, in the order of G26, and what follows its
+ * command. Without a map, 9 and 11 are not tried: what is left are those that the path rule names. */
 uint32_t model_pair_reason(const struct code *code, const uint8_t *map, struct pair pair,
                            struct follow *follow);
 

@@ -32,7 +32,8 @@ SAME_NUMBER(UPBORLIYA_REASON_MARKED_PARAMETER, REASON_MARKED);
 SAME_NUMBER(UPBORLIYA_REASON_TARGET_PAST, REASON_TARGET);
 SAME_NUMBER(UPBORLIYA_REASON_NOT_MARKED, REASON_UNMARKED);
 SAME_NUMBER(UPBORLIYA_REASON_END_INSIDE, REASON_END);
-SAME_NUMBER(UPBORLIYA_REASON_END_INSIDE + 1, REASON_COUNT);
+SAME_NUMBER(UPBORLIYA_REASON_WRAPS, REASON_WRAPS);
+SAME_NUMBER(UPBORLIYA_REASON_WRAPS + 1, REASON_COUNT);
 SAME_NUMBER(UPBORLIYA_REFUSAL_NONE, REFUSAL_NONE);
 SAME_NUMBER(UPBORLIYA_REFUSAL_LEVEL, REFUSAL_LEVEL);
 SAME_NUMBER(UPBORLIYA_REFUSAL_SLI, REFUSAL_SLI);
@@ -156,7 +157,7 @@ static void compare(void)
         counts.refusals[archive.refusal]++;
 }
 
-/* G33, G34, G35, G36, G37: runs accepted words on the model's channel. */
+/* G33, G34, G35, G36, G37, G39: runs accepted words on the model's channel. */
 static void run(struct draw *draw)
 {
     struct submission submission = submission_of(&given);
@@ -241,11 +242,12 @@ static void give_uniform(uint32_t size, uint32_t word, uint8_t mark)
         set_word(&given, i, word);
 }
 
-/* R8: as many words as there can be: count 0, conditionals, the longest run, old jumps to place 0, to the
- * last place and to the one before. */
+/* R8, G13: as many words as there can be: count 0, conditionals, the longest run up to 0x1ffc, one past it,
+ * the longest non-increasing one, old jumps to place 0, to the last place and to the one before. */
 static void test_uniforms(struct draw *draw)
 {
-    static const uint32_t words[] = {0x00000000, 0x00010010, 0x1ffc0100, 0x20000000, 0x203ffffc, 0x203ffff8};
+    static const uint32_t words[] = {0x00000000, 0x00010010, 0x1f000100, 0x1ffc0100,
+                                     0x5ffc0100, 0x20000000, 0x203ffffc, 0x203ffff8};
 
     for (unsigned i = 0; i < sizeof words / sizeof words[0]; i++)
         for (uint8_t mark = STATE_MAIN; mark <= STATE_BOTH; mark++) {

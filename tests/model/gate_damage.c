@@ -59,12 +59,29 @@ static bool has_parameters(const struct given *given, uint32_t place)
     return is_run(given, place) && count != 0 && count < word_count(given) - place;
 }
 
-/* An increasing run past method 0x1ffc. */
-static bool is_wrap(const struct given *given, uint32_t place)
+/* An increasing run that goes past 0x1ffc with another method: it has two parameters or more. */
+static bool can_wrap(const struct given *given, uint32_t place)
 {
     struct reading command = command_of(given, place);
 
-    return command.number == READING_INCREASING && command.value[2] / 4 + command.value[0] > METHODS;
+    return command.number == READING_INCREASING && command.value[0] >= 2 && has_parameters(given, place);
+}
+
+/* How many parameters a command at a place can have. */
+static uint32_t most_parameters(const struct given *given, uint32_t place)
+{
+    uint32_t behind = word_count(given) - place - 1;
+
+    return behind < METHODS ? behind : METHODS - 1;
+}
+
+/* An increasing run that goes past 0x1ffc with more parameters, for which there are words. */
+static bool can_wrap_longer(const struct given *given, uint32_t place)
+{
+    struct reading command = command_of(given, place);
+
+    return command.number == READING_INCREASING &&
+           command.value[2] / 4 + most_parameters(given, place) > METHODS;
 }
 
 /* ---- Damage in view of no reason ---- */
@@ -237,13 +254,36 @@ static void damage_permit(struct draw *draw, struct given *given)
     set_permit(given, command.value[1], method % METHODS, false);
 }
 
-/* G8, G29: a run goes on past 0x1ffc, and method 0 is not permitted. */
+/* G13: a method from which a run goes past 0x1ffc, by one parameter or by any number, permitted or not. */
 static void damage_wrap(struct draw *draw, struct given *given)
 {
-    uint32_t place = draw_start(draw, given, is_wrap);
+    uint32_t place = draw_start(draw, given, can_wrap);
+    bool is_permitted = draw_once_in(draw, 2);
+    uint32_t count, past, method;
 
-    if (place != NOWHERE)
-        set_permit(given, command_of(given, place).value[1], 0, false);
+    if (place == NOWHERE)
+        return;
+    count = command_of(given, place).value[0];
+    past = draw_once_in(draw, 2) ? 1 : 1 + draw_below(draw, count - 1);
+    method = METHODS - (count - past);
+    set_word(given, place, (word_of(given, place) & 0xffffe003) | method << 2);
+    if (is_permitted)
+        permit_run(given, place);
+}
+
+/* G9, G13: so many parameters that a run goes past 0x1ffc, by one or by any number; what becomes a parameter
+ * may be marked. */
+static void damage_longer(struct draw *draw, struct given *given)
+{
+    uint32_t place = draw_start(draw, given, can_wrap_longer);
+    uint32_t least, more, count;
+
+    if (place == NOWHERE)
+        return;
+    least = METHODS + 1 - command_of(given, place).value[2] / 4;
+    more = draw_below(draw, most_parameters(given, place) + 1 - least);
+    count = least + (draw_once_in(draw, 2) ? 0 : more);
+    set_word(given, place, (word_of(given, place) & 0xe003ffff) | count << 18);
 }
 
 /* G9: a marked parameter. */
@@ -306,11 +346,10 @@ static void damage_last(struct draw *draw, struct given *given)
 }
 
 static void (*const damages[])(struct draw *, struct given *) = {
-    damage_mark,       damage_word,   damage_bit,       damage_permit_bit, damage_cut,
-    damage_drop,       damage_insert, damage_append,    damage_map_byte,   damage_first,
-    damage_reserved,   damage_call,   damage_return,    damage_parameters, damage_method,
-    damage_permit,     damage_wrap,   damage_parameter, damage_target,     damage_next,
-    damage_after_call, damage_end,    damage_last,
+    damage_mark,      damage_word,       damage_bit,      damage_permit_bit, damage_cut,      damage_drop,
+    damage_insert,    damage_append,     damage_map_byte, damage_first,      damage_reserved, damage_call,
+    damage_return,    damage_parameters, damage_method,   damage_permit,     damage_wrap,     damage_longer,
+    damage_parameter, damage_target,     damage_next,     damage_after_call, damage_end,      damage_last,
 };
 
 unsigned damage_count(void)

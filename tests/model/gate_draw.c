@@ -66,25 +66,34 @@ static void emit(struct text *text, uint32_t word, uint8_t mark)
     text->given->map[text->count++] = mark;
 }
 
-/* How many of `count` methods from one on the level has, up to the first that it lacks. */
+/* How many of `count` methods from one on the level has, up to the first that it lacks or to 0x1ffc. */
 static uint32_t present_count(uint32_t level, uint32_t method, uint32_t count)
 {
     uint32_t present = 0;
 
-    while (present < count && model_present(level, (method + present) % METHODS))
+    while (present < count && method + present < METHODS && model_present(level, method + present))
         present++;
     return present;
 }
 
-/* G7, G29: a run as long as the level has its methods; where it lacks the first, the count is 0. */
+/* G13: the method of a run of so many parameters, at times the one with which they come to 0x1ffc. */
+static uint32_t draw_run_method(struct draw *draw, uint32_t count)
+{
+    uint32_t method = draw_method(draw);
+
+    return count != 0 && draw_once_in(draw, 16) ? METHODS - count : method;
+}
+
+/* G7, G13, G29: a run as long as the level has its methods, an increasing one up to 0x1ffc; where the level
+ * lacks the first, the count is 0. */
 static void emit_run(struct text *text, uint32_t room)
 {
     uint32_t level = text->given->level;
     bool is_increasing = level == 0 || draw_once_in(text->draw, 2);
     uint32_t form = is_increasing ? 0 : 0x40000000;
     uint32_t subchannel = draw_below(text->draw, 8);
-    uint32_t method = draw_method(text->draw);
     uint32_t count = draw_parameters(text->draw, room - 1);
+    uint32_t method = draw_run_method(text->draw, count);
     uint32_t present = present_count(level, method, count);
 
     if (is_increasing || present == 0)
@@ -289,12 +298,21 @@ static uint32_t draw_tangle_target(struct draw *draw, uint32_t count)
     return 4 * draw_below(draw, draw_once_in(draw, 4) ? count + 2 : count);
 }
 
+/* G13: half of them go to a method that every level has; the others come near 0x1ffc, or would go past. */
+uint32_t draw_tangle_run(struct draw *draw)
+{
+    static const uint32_t methods[] = {0x100, 0x100, 0x100, 0x1ff8, 0x1ffc, 0x1ffc};
+    uint32_t parameters = draw_below(draw, 3) << 18;
+    uint32_t subchannel = draw_below(draw, 8) << 13;
+
+    return parameters | subchannel | draw_among(draw, methods, sizeof methods / sizeof methods[0]);
+}
+
 /* G27: calls, jumps, returns, and commands that go on. Seldom a word that may be anything. */
 static uint32_t draw_tangle_word(struct draw *draw, uint32_t count)
 {
     uint32_t target = draw_tangle_target(draw, count);
-    uint32_t parameters = draw_below(draw, 3) << 18;
-    uint32_t run = parameters | draw_below(draw, 8) << 13 | 0x100;
+    uint32_t run = draw_tangle_run(draw);
 
     switch (draw_below(draw, 16)) {
     case 0:

@@ -83,6 +83,9 @@ uint32_t draw_wild_word(struct draw *draw, uint32_t count);
  * methods are permitted. The map is of any bytes. */
 void draw_tangle(struct draw *draw, struct given *given, uint32_t count);
 
+/* An increasing run of that kind, of few parameters; with bit 30 set it is a non-increasing one. */
+uint32_t draw_tangle_run(struct draw *draw);
+
 /* A map of any bytes, of which some are marks. */
 void draw_map(struct draw *draw, struct given *given);
 

@@ -43,9 +43,15 @@ static uint32_t kind_of_change(uint64_t change)
     return (before & after) == after ? 3 : 4;
 }
 
+/* H5: whether the map, which is the exact one now, has a pair. */
+static bool is_mapped(uint32_t pair)
+{
+    return (given.map[pair / 2] >> pair % 2 & 1) != 0;
+}
+
 /* Of a repaired submission: CHANGED by the number of changes, 3 standing for more; CHANGE by what they are;
  * MARK by the marks that the map has now, each once; BAD by what the gatekeeper's reason is now, 0 where it
- * accepts. */
+ * accepts; and PATH. */
 static void count_repaired(struct vectors *vectors, uint32_t changes)
 {
     struct submission submission = submission_of(&given);
@@ -60,6 +66,7 @@ static void count_repaired(struct vectors *vectors, uint32_t changes)
         if (has[mark])
             count_one(vectors, MARK, mark);
     count_one(vectors, BAD, model_judge(&submission).reason);
+    count_path(vectors, PATH_REPAIR, is_mapped);
 }
 
 /* R11, R37: where the refusal is ROOM, SHORT by the room: 1 the list's, 2 the work room, 3 both. */
@@ -130,7 +137,7 @@ static void put_repair_short(struct vectors *vectors)
     put_repair(vectors, which % 2 == 1 ? fewer : count + more, which >= 2 ? less : 2 * count + more);
 }
 
-enum { ROW_WORDS = 5 };
+enum { ROW_WORDS = 6 };
 
 /* H3, H4, H5, H12, H17: cases worked out by hand, or that others bring: all methods permitted, rooms as they
  * are asked for. */
@@ -168,6 +175,15 @@ static const struct row {
     {0, 1, {3}, {2}},
     {0, 2, {0x00080100, 0}, {1, 0}},
     {0, 3, {0x00040050, 0, 0}, {1, 0, 1}},
+    /* G13: a run past 0x1ffc, in main, inside and where nothing leads; up to it; a non-increasing one. */
+    {0, 4, {0x00081ffc, 0, 0, 0}, {1, 0, 0, 1}},
+    {5, 5, {0x000cfff8, 0, 0, 0, 0}, {1, 0, 0, 0, 0}},
+    {2, 6, {0xa, 0x19, 0x00081ffc, 0, 0, 0x20000}, {1, 1, 2, 0, 0, 2}},
+    {2, 5, {0x6, 0x00081ffc, 0, 0, 0}, {1, 3, 0, 0, 3}},
+    {0, 5, {0x20000010, 0x00081ffc, 0, 0, 0}, {1, 1, 0, 0, 0}},
+    {0, 4, {0x00081ff8, 0, 0, 0}, {1, 0, 0, 0}},
+    {2, 6, {0xa, 0x19, 0x00081ff8, 0, 0, 0x20000}, {1, 1, 0, 0, 0, 0}},
+    {1, 4, {0x40081ffc, 0, 0, 0}, {1, 0, 0, 0}},
     /* A call inside, and a jump to itself. */
     {5, 4, {0x0000000a, 0x20000010, 0x0000000e, 0}, {1, 1, 2, 3}},
     {5, 3, {0x20000000, 0x1, 0x2}, {4, 5, 6}},
@@ -222,7 +238,7 @@ static void put_drawn_repairs(struct vectors *vectors)
             draw_map(draw, &given);
         put_repair_roomy(vectors);
     }
-    for (unsigned i = 0; i < 9 * damage_count(); i++) {
+    for (unsigned i = 0; i < 10 * damage_count(); i++) {
         draw_sound(draw, &given, draw_size(draw));
         if (i % 2 == 0)
             give_exact_map(&given);
@@ -235,7 +251,7 @@ static void put_drawn_repairs(struct vectors *vectors)
             draw_map(draw, &given);
         put_repair_roomy(vectors);
     }
-    for (unsigned i = 0; i < 180; i++) {
+    for (unsigned i = 0; i < 210; i++) {
         draw_tangle(draw, &given, draw_size(draw));
         put_repair_roomy(vectors);
     }
@@ -339,8 +355,7 @@ void put_wides(struct vectors *vectors)
         {4, 0, 4 * ALL, ALL, 2048, 0xff, 8200, 16400, 0x20, 0},
         {2, 0, 4 * ALL, ALL, 2048, 0xff, ALL, 2 * ALL, 0x01, 255},
         {5, 1, 4 * ALL, ALL, 2048, 0xff, 8200, 2 * ALL, 0x02, 3},
-        /* 257 parameters up to the end, and 1,799, of which the last is missing, or lacking at this level.
-         */
+        /* 257 parameters up to the end, and 1,799, of which the last is missing, or that go past 0x1ffc. */
         {1, 0, 4 * 258, 258, 2048, 0xff, 258, 516, 0x04, 3},
         {1, 0, 4 * 1799, 1799, 2048, 0xff, 1799, 3598, 0x1c, 2},
         {1, 0, 4 * 1800, 1800, 2048, 0xff, 1800, 3600, 0x1c, 0},

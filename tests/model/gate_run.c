@@ -15,6 +15,9 @@ struct run {
     uint32_t words[SIZE_LIMIT];
     uint8_t roles[SIZE_LIMIT];
     size_t word_count;
+    /* Whether the last word that was read is a parameter, and its method's number. */
+    bool is_in_run;
+    uint32_t method;
     uint32_t table[ENTRY_WORDS * TABLE_ENTRIES];
     uint32_t semaphores[SEMAPHORES];
     uint64_t clock;
@@ -91,8 +94,18 @@ static bool is_permitted(const struct run *run, const struct channel *channel)
     return (run->submission->permit[byte] >> channel->method % 8 & 1) != 0;
 }
 
-/* G35, G36: what the word about to be read breaks. NV04-style has no long form, so that it is a parameter or
- * a command, by the count alone. */
+/* G39: whether a parameter about to be read goes to another method than the one behind that of the parameter
+ * before it, in an increasing run. */
+static bool is_out_of_turn(const struct run *run)
+{
+    const struct channel *channel = &run->channel;
+
+    return run->is_in_run && channel->count != 0 && channel->increasing &&
+           channel->method != run->method + 1;
+}
+
+/* G35, G36, G39: what the word about to be read breaks. NV04-style has no long form, so that it is a
+ * parameter or a command, by the count alone. */
 static const char *reading_breach(struct run *run)
 {
     const struct channel *channel = &run->channel;
@@ -106,6 +119,10 @@ static const char *reading_breach(struct run *run)
         return "a word is read both as a command and as a parameter";
     if (channel->count != 0 && !is_permitted(run, channel))
         return "a method that is not permitted is submitted";
+    if (is_out_of_turn(run))
+        return "an increasing run does not go to the next method";
+    run->is_in_run = channel->count != 0;
+    run->method = channel->method;
     return NULL;
 }
 
@@ -152,7 +169,7 @@ static bool is_over(const struct channel *channel)
     return channel->puller_error != 0 || (!channel->acquire_active && channel->get == channel->put);
 }
 
-/* G33, G34, G35, G36, G37: a fresh channel, and the words lent unchanged to every step. */
+/* G33, G34, G35, G36, G37, G39: a fresh channel, and the words lent unchanged to every step. */
 const char *run_breach(struct draw *draw, const struct submission *submission, uint32_t steps)
 {
     static struct run run;
@@ -161,6 +178,7 @@ const char *run_breach(struct draw *draw, const struct submission *submission, u
     run.draw = draw;
     run.submission = submission;
     run.is_let_go = !draw_once_in(draw, 4);
+    run.is_in_run = false;
     set_words(&run);
     draw_memory(&run);
     breach = state_breach(&run.channel, open_channel(&run));

@@ -31,6 +31,12 @@ static bool is_out_of_order(uint32_t found)
     return false;
 }
 
+/* H11: whether a pair was found. */
+static bool is_found(uint32_t pair)
+{
+    return (uint32_t)room[pair] != 0;
+}
+
 /* G23: whether more would be found if the list went on, and permitted all that comes then. It is left so. */
 static bool is_decided_by_cut(uint32_t found)
 {
@@ -44,15 +50,19 @@ static bool is_decided_by_cut(uint32_t found)
 }
 
 /* FOUND by how many pairs, 3 standing for more; ORDER by 1 where they aren't in the order of their numbers;
- * SETTING by the mode, 2 where the setting is refused; LIST by 0 where the permit list is shorter than the
- * gatekeeper's, 1 where it has that length, 2 where it is longer; CUT by 1 where its end decides. */
+ * SETTING by the mode, 2 where the setting is refused, else PATH too; LIST by 0 where the permit list is
+ * shorter than the gatekeeper's, 1 where it has that length, 2 where it is longer; CUT by 1 where its end
+ * decides. */
 static void count_searched(struct vectors *vectors, uint32_t found)
 {
     struct setting setting = {given.level, mode, given.sli != 0};
+    bool is_refused = model_setting_refusal(setting) != REFUSAL_NONE;
 
     count_one(vectors, FOUND, found < 3 ? found : 3);
     count_one(vectors, ORDER, is_out_of_order(found));
-    count_one(vectors, SETTING, model_setting_refusal(setting) != REFUSAL_NONE ? 2 : mode);
+    count_one(vectors, SETTING, is_refused ? 2 : mode);
+    if (!is_refused)
+        count_path(vectors, PATH_SEARCH, is_found);
     count_one(vectors, LIST, (given.permit_length >= PERMIT_BYTES) + (given.permit_length > PERMIT_BYTES));
     count_one(vectors, CUT, is_decided_by_cut(found));
 }
@@ -112,6 +122,47 @@ static void put_search_somehow(struct vectors *vectors)
     put_search(vectors, draw_among(draw, rooms, sizeof rooms / sizeof rooms[0]));
 }
 
+enum { ROW_WORDS = 6 };
+
+/* G13, H2, H9: a run past 0x1ffc, in main, inside, in both and where nothing leads; one up to 0x1ffc, of one
+ * parameter, of none, or non-increasing. All methods are permitted, and the room is as it is asked for. */
+static const struct row {
+    uint32_t level;
+    uint32_t mode;
+    uint32_t count;
+    uint32_t words[ROW_WORDS];
+} rows[] = {
+    {0, MODE_NV04, 4, {0x81ffc, 0, 0, 0}},
+    {3, MODE_NV04, 5, {0xcfff8, 0, 0, 0, 0}},
+    {2, MODE_NV04, 6, {0x12, 0x81ffc, 0, 0, 0, 0x20000}},
+    {2, MODE_NV04, 6, {0xa, 0x19, 0x81ffc, 0, 0, 0x20000}},
+    {2, MODE_NV04, 5, {0x6, 0x81ffc, 0, 0, 0}},
+    {1, MODE_NV04, 6, {0x20000010, 0x81ffc, 0, 0, 0, 0}},
+    {4, MODE_IB, 4, {0x81ffc, 0, 0, 0}},
+    {5, MODE_IB, 6, {0x41ffc, 0, 0xc3ff8, 0, 0, 0}},
+    {0, MODE_NV04, 4, {0x81ff8, 0, 0, 0}},
+    {0, MODE_NV04, 3, {0x41ffc, 0, 0}},
+    {0, MODE_NV04, 2, {0x1ffc, 0}},
+    {1, MODE_NV04, 4, {0x40081ffc, 0, 0, 0}},
+    {2, MODE_NV04, 6, {0xa, 0x19, 0x81ff8, 0, 0, 0x20000}},
+    {5, MODE_IB, 4, {0x8fff8, 0, 0, 0}},
+    {4, MODE_IB, 4, {0x40081ffc, 0, 0, 0}},
+};
+
+static void put_rows(struct vectors *vectors)
+{
+    for (size_t i = 0; i < sizeof rows / sizeof rows[0]; i++) {
+        given.level = rows[i].level;
+        given.sli = 0;
+        mode = rows[i].mode;
+        set_count(&given, rows[i].count);
+        fill_permit(&given, 0xff);
+        for (uint32_t place = 0; place < rows[i].count; place++)
+            set_word(&given, place, rows[i].words[place]);
+        put_search(vectors, 2 * rows[i].count);
+    }
+}
+
 /* Mostly few words. */
 static uint32_t draw_size(struct draw *draw)
 {
@@ -134,8 +185,7 @@ static void cut_permit(struct draw *draw)
 /* W5, G3: a word for IB mode: runs, conditionals, seldom a long form, or what only NV04-style has. */
 static uint32_t draw_ib_word(struct draw *draw, uint32_t count)
 {
-    uint32_t parameters = draw_below(draw, 3) << 18;
-    uint32_t run = parameters | draw_below(draw, 8) << 13 | 0x100;
+    uint32_t run = draw_tangle_run(draw);
 
     switch (draw_below(draw, 16)) {
     case 0:
@@ -184,7 +234,8 @@ void put_searches(struct vectors *vectors)
     struct draw *draw = &vectors->draw;
 
     *draw = (struct draw){0x5ea4c4};
-    for (unsigned i = 0; i < 400; i++) {
+    put_rows(vectors);
+    for (unsigned i = 0; i < 450; i++) {
         uint32_t kind = i % 10;
 
         mode = MODE_NV04;

@@ -153,7 +153,7 @@ static void test_sizes(void)
 
 /* ---- Reasons ---- */
 
-enum { ROW_WORDS = 4 };
+enum { ROW_WORDS = 6 };
 
 /* A few words with their map. Every method is permitted. */
 struct row {
@@ -167,8 +167,8 @@ struct row {
     uint32_t place;
 };
 
-/* G1, G2, G3, G4, G5, G6, G7, G9, G10, G11, G12, G21, G22, G25, G26, G27, G28, G29, G30: each reason at its
- * place, where two could be given, and next to what is accepted. */
+/* G1, G2, G3, G4, G5, G6, G7, G9, G10, G11, G12, G13, G21, G22, G25, G26, G27, G28, G29, G30: each reason at
+ * its place, where two could be given, and next to what is accepted. */
 static const struct row rows[] = {
     {"no words", 0, 0, 0, {0}, {0}, 0, 0},
 
@@ -214,6 +214,27 @@ static const struct row rows[] = {
     {"7 comes before 9", 0, 0, 2, {0x00040050, 0}, {1, 1}, 7, 0},
     {"count 0 has no method", 0, 0, 2, {0x00000050, 0}, {1, 1}, 0, 0},
     {"count 0 has no method", 5, 0, 2, {0x4000e054, 0}, {1, 1}, 0, 0},
+
+    {"13: two parameters from 0x1ffc on", 0, 0, 3, {0x00081ffc, 0, 0}, {1, 0, 0}, 13, 0},
+    {"13: three parameters from 0x1ff8 on", 0, 0, 4, {0x000c1ff8, 0, 0, 0}, {1, 0, 0, 0}, 13, 0},
+    {"13: whatever the subchannel", 5, 1, 3, {0x0008fffc, 0, 0}, {1, 0, 0}, 13, 0},
+    {"13: in main", 2, 0, 4, {0, 0x00081ffc, 0, 0}, {1, 1, 0, 0}, 13, 1},
+    {"13: inside", 2, 0, 5, {0x20000000, 0x00081ffc, 0, 0, 0x00020000}, {1, 2, 0, 0, 2}, 13, 1},
+    {"13: in both states", 2, 0, 5, {0x20000000, 0x00081ffc, 0, 0, 0}, {1, 3, 0, 0, 1}, 13, 1},
+    {"two parameters up to 0x1ffc", 0, 0, 3, {0x00081ff8, 0, 0}, {1, 0, 0}, 0, 0},
+    {"one parameter for 0x1ffc", 0, 0, 2, {0x00041ffc, 0}, {1, 0}, 0, 0},
+    {"count 0 at 0x1ffc", 0, 0, 2, {0x00001ffc, 0}, {1, 1}, 0, 0},
+    {"a non-increasing run stays at 0x1ffc", 1, 0, 3, {0x40081ffc, 0, 0}, {1, 0, 0}, 0, 0},
+    {"up to 0x1ffc inside", 2, 0, 5, {0x20000000, 0x00081ff8, 0, 0, 0x00020000}, {1, 2, 0, 0, 2}, 0, 0},
+    {"a run past 0x1ffc that is no start", 0, 0, 4, {0x20000010, 0x00081ffc, 0, 0}, {1, 0, 0, 0}, 0, 0},
+    {"6 comes before 13", 0, 0, 2, {0x00081ffc, 0}, {1, 0}, 6, 0},
+    {"6 comes before 13", 0, 0, 3, {0x000c1ff8, 0, 0}, {1, 0, 0}, 6, 0},
+    {"6 of one parameter for 0x1ffc", 0, 0, 1, {0x00041ffc}, {1}, 6, 0},
+    {"13 comes before 7", 5, 0, 4, {0x000c1ffc, 0, 0, 0}, {1, 0, 0, 0}, 13, 0},
+    {"13 comes before 9", 0, 0, 3, {0x00081ffc, 0, 0}, {1, 0, 1}, 13, 0},
+    {"13 comes before 9", 0, 0, 3, {0x00081ffc, 0, 0}, {1, 2, 0}, 13, 0},
+    {"13 comes before 11", 0, 0, 4, {0x00081ffc, 0, 0, 0}, {1, 0, 0, 0}, 13, 0},
+    {"13 comes before 12", 0, 0, 4, {0x20000000, 0x00081ffc, 0, 0}, {1, 2, 0, 0}, 13, 1},
 
     {"9: a marked parameter", 0, 0, 2, {0x00040100, 0}, {1, 1}, 9, 0},
     {"9: a marked parameter", 0, 0, 2, {0x00040100, 0}, {1, 2}, 9, 0},
@@ -277,8 +298,8 @@ static void test_rows(void)
 
 /* ---- The path rule ---- */
 
-/* H1, H2, H3, H4, H5: a few words with the pairs that are reached, and the lowest bad place; NOWHERE where
- * none is bad. */
+/* G13, H1, H2, H3, H4, H5: a few words with the pairs that are reached, and the lowest bad place; NOWHERE
+ * where none is bad. */
 static const struct path_row {
     const char *sentence;
     uint32_t level;
@@ -299,6 +320,15 @@ static const struct path_row {
     {"nothing follows reason 5", 2, 2, {0x00020000, 0}, {1, 0}, 0},
     {"nothing follows reason 6", 0, 2, {0x00080100, 0}, {1, 0}, 0},
     {"nothing follows reason 7", 0, 3, {0x00040050, 0, 0}, {1, 0, 0}, 0},
+    {"nothing follows reason 13", 0, 4, {0x00081ffc, 0, 0, 0}, {1, 0, 0, 0}, 0},
+    {"nothing follows 13, with 7", 0, 5, {0x000c1ffc, 0, 0, 0, 0}, {1, 0, 0, 0, 0}, 0},
+    {"13 in main alone", 2, 6, {0x16, 0x81ffc, 0, 0, 0, 0x20000}, {1, 1, 0, 0, 0, 2}, 1},
+    {"13 inside alone", 2, 6, {0xa, 0x19, 0x81ffc, 0, 0, 0x20000}, {1, 1, 2, 0, 0, 0}, 2},
+    {"13 in both states", 2, 5, {0x6, 0x81ffc, 0, 0, 0}, {1, 3, 0, 0, 0}, 1},
+    {"13 where nothing leads", 0, 5, {0x20000010, 0x81ffc, 0, 0, 0}, {1, 0, 0, 0, 1}, NOWHERE},
+    {"the word after a run up to 0x1ffc", 0, 4, {0x00081ff8, 0, 0, 0}, {1, 0, 0, 1}, NOWHERE},
+    {"up to 0x1ffc inside", 2, 6, {0xa, 0x19, 0x81ff8, 0, 0, 0x20000}, {1, 1, 2, 0, 0, 2}, NOWHERE},
+    {"a non-increasing run at 0x1ffc", 1, 4, {0x40081ffc, 0, 0, 0}, {1, 0, 0, 1}, NOWHERE},
     {"nothing follows reason 10", 0, 2, {0x2000000c, 0}, {1, 0}, 0},
     {"a call with 10 reaches neither", 2, 2, {0x0000000e, 0}, {1, 0}, 0},
     {"a jump is no reason 12 here", 0, 2, {0x20000004, 0}, {1, 1}, NOWHERE},
@@ -385,22 +415,44 @@ static void test_permit_bits(void)
         }
 }
 
-/* G7, G8, G29: runs from 0x1ffc on. */
+/* G7, G8, G13, G26, G29: runs from 0x1ffc on, whatever the level has and the list permits. */
 static void test_wrap(void)
 {
     for (uint32_t subchannel = 0; subchannel < 8; subchannel++) {
         give_run(0, 0, 2, subchannel, 2047);
+        gives_reason("13 comes before 8", REASON_WRAPS, 0, 0);
         given.permit[256 * subchannel + 255] = 0x80;
-        gives_reason("method 0 comes after the last, not permitted", REASON_PERMIT, 1, 0);
+        gives_reason("past the last method, to one that is not permitted", REASON_WRAPS, 1, 0);
         given.permit[256 * subchannel] = 0x01;
-        gives_reason("method 0 comes after the last, permitted", REASON_NONE, 2, 0);
+        gives_reason("past the last method, to one that is permitted", REASON_WRAPS, 2, 0);
         give_run(5, 0, 3, subchannel, 2047);
         fill_permit(&given, 0xff);
-        gives_reason("method 4 comes after method 0", REASON_NON_CACHE, ALL_PERMITTED, 0);
+        gives_reason("past the last method, to one that is lacking", REASON_WRAPS, ALL_PERMITTED, 0);
+        give_run(0, 0, 1, subchannel, 2047);
+        gives_reason("the last method, not permitted", REASON_PERMIT, 0, 0);
+        given.permit[256 * subchannel + 255] = 0x80;
+        gives_reason("the last method, permitted", REASON_NONE, 1, 0);
         give_run(1, 0x40000000, 3, subchannel, 2047);
         given.permit[256 * subchannel + 255] = 0x80;
         gives_reason("a non-increasing method stays", REASON_NONE, 1, 0);
     }
+}
+
+/* G13: the last method of a run by itself, of every method and count near the border. */
+static void test_last_methods(void)
+{
+    for (uint32_t method = 2030; method < 2048; method++)
+        for (uint32_t count = 0; count <= 20; count++) {
+            bool is_past = count != 0 && method + (count - 1) > 2047;
+            uint32_t reason = is_past ? REASON_WRAPS : REASON_NONE;
+
+            give_run(1, 0, count, 4, method);
+            fill_permit(&given, 0xff);
+            gives_reason("increasing, near the last", reason, ALL_PERMITTED, 0);
+            give_run(1, 0x40000000, count, 4, method);
+            fill_permit(&given, 0xff);
+            gives_reason("non-increasing, near the last", REASON_NONE, ALL_PERMITTED, 0);
+        }
 }
 
 /* G8, G26: 7 of the second parameter comes before 8 of the first, and 8 before 9. */
@@ -459,6 +511,29 @@ static void test_long_runs(void)
         gives_reason("all methods from 0x100 on", REASON_NONE, METHODS - 64, 0);
         set_permit(&given, 5, method, false);
         gives_reason("all but one", REASON_PERMIT, METHODS - 64 - 1, 0);
+    }
+}
+
+/* G6, G7, G13, G26, G29: as many parameters as there are methods from one on, and one more. Of the methods
+ * below 0x100 no level has all, so that a run of them has 7 where it doesn't have 13. */
+static void test_long_wraps(void)
+{
+    static const struct {
+        uint32_t method;
+        uint32_t count;
+        uint32_t reason;
+    } runs[] = {{0, 2047, REASON_NON_CACHE}, {1, 2047, REASON_NON_CACHE}, {2, 2047, REASON_WRAPS},
+                {2, 2046, REASON_NON_CACHE}, {3, 2046, REASON_WRAPS},     {64, 1984, REASON_NONE},
+                {64, 1985, REASON_WRAPS},    {65, 1983, REASON_NONE},     {65, 1984, REASON_WRAPS},
+                {1024, 1024, REASON_NONE},   {1024, 1025, REASON_WRAPS},  {1025, 1024, REASON_WRAPS},
+                {2047, 2047, REASON_WRAPS}};
+
+    for (unsigned i = 0; i < sizeof runs / sizeof runs[0]; i++) {
+        give_run(5, 0, runs[i].count, 6, runs[i].method);
+        fill_permit(&given, 0xff);
+        gives_reason("a long run", runs[i].reason, ALL_PERMITTED, 0);
+        set_count(&given, runs[i].count);
+        gives_reason("a long run, of which a word is missing", REASON_PARAMETERS, ALL_PERMITTED, 0);
     }
 }
 
@@ -527,7 +602,13 @@ static bool next_has(const struct submission *submission, struct pair next, uint
     }
 }
 
-/* G6, G7, G8, G9: whether parameter i of a place's command gives it one of the reasons 6 to 9. */
+/* G13: whether parameter i of a run comes after the one for the last method. */
+static bool is_after_last(struct reading command, uint32_t i)
+{
+    return command.number == READING_INCREASING && i > 2047 - command.value[2] / 4;
+}
+
+/* G6, G7, G8, G9, G13: whether parameter i of a place's command gives it a reason, one of 6 to 9 or 13. */
 static bool parameter_has(const struct submission *submission, uint32_t place, uint32_t i, uint32_t reason)
 {
     struct reading command = command_of(&given, place);
@@ -540,6 +621,8 @@ static bool parameter_has(const struct submission *submission, uint32_t place, u
         return is_lacking(submission, command, i);
     case 8:
         return is_forbidden(submission, command, i);
+    case 13:
+        return is_after_last(command, i);
     default:
         return at < submission->map_length && submission->map[at] != 0;
     }
@@ -561,6 +644,7 @@ static bool pair_has(const struct submission *submission, struct pair pair, uint
     case 7:
     case 8:
     case 9:
+    case 13:
         for (uint32_t i = 0; i < parameters_of(pair.place); i++)
             has = has || parameter_has(submission, pair.place, i, reason);
         return has;
@@ -573,7 +657,7 @@ static bool pair_has(const struct submission *submission, struct pair pair, uint
 
 /* G26: the order at one pair. 11 may come last, as of a call's two next pairs only the first can have 10 or
  * 12. */
-static const uint32_t reason_order[] = {3, 4, 5, 6, 7, 8, 9, 10, 12, 11};
+static const uint32_t reason_order[] = {3, 4, 5, 6, 13, 7, 8, 9, 10, 12, 11};
 
 static uint32_t first_of_reasons(const struct submission *submission, struct pair pair)
 {
@@ -618,7 +702,7 @@ static struct judgement judge_by_conditions(const struct submission *submission)
 /* H2: the reasons that don't look at a map. */
 static bool stops_path(const struct submission *submission, struct pair pair)
 {
-    static const uint32_t reasons[] = {3, 4, 5, 6, 7, 8, 10, 12};
+    static const uint32_t reasons[] = {3, 4, 5, 6, 7, 8, 10, 12, 13};
 
     for (unsigned i = 0; i < sizeof reasons / sizeof reasons[0]; i++)
         if (pair_has(submission, pair, reasons[i]))
@@ -698,14 +782,38 @@ static struct judgement test_judgement(void)
     return judgement;
 }
 
-/* G33, G34, G35, G36, G37, G38: what accepted words never do. */
-static void test_run(struct draw *draw, struct judgement judgement)
+/* G29, G39: whether the parameters of a place's command, if it is an increasing one, go to methods that
+ * stand one behind another, from its own on. */
+static bool is_rising(uint32_t place)
+{
+    struct reading command = command_of(&given, place);
+
+    if (command.number != READING_INCREASING)
+        return true;
+    for (uint32_t i = 0; i < command.value[0]; i++)
+        if (method_at(command, i) != command.value[2] / 4 + i)
+            return false;
+    return true;
+}
+
+/* G39: the same of every command at a marked place. */
+static bool are_rising(void)
+{
+    for (uint32_t place = 0; place < word_count(&given); place++)
+        if (given.map[place] != 0 && !is_rising(place))
+            return false;
+    return true;
+}
+
+/* G33, G34, G35, G36, G37, G38, G39: what accepted words never do. */
+static void test_accepted(struct draw *draw, struct judgement judgement)
 {
     struct submission submission = lend();
     const char *breach;
 
     if (judgement.reason != REASON_NONE || judgement.refusal != REFUSAL_NONE)
         return;
+    check(are_rising(), "runs that are accepted go from a method to the next", given.level, judgement);
     breach = run_breach(draw, &submission, 2000);
     check(breach == NULL, breach == NULL ? "accepted words" : breach, given.level, judgement);
 }
@@ -726,7 +834,7 @@ static void test_exact_map(struct draw *draw)
     check(path.is_bad == (judgement.reason != REASON_NONE), "accepted if no place is bad", given.level,
           judgement);
     check(judgement.place == path.place, "the lowest bad place", given.level, judgement);
-    test_run(draw, judgement);
+    test_accepted(draw, judgement);
 }
 
 /* H7: words that are accepted with whatever map have no bad place. */
@@ -736,7 +844,7 @@ static void test_submission(struct draw *draw)
     struct submission submission = lend();
     struct judgement judgement = test_judgement();
 
-    test_run(draw, judgement);
+    test_accepted(draw, judgement);
     if (judgement.refusal != REFUSAL_NONE)
         return;
     check(judgement.reason != REASON_NONE || !path_by_conditions(&submission, map).is_bad,
@@ -781,9 +889,11 @@ int main(void)
     test_path_permit();
     test_permit_bits();
     test_wrap();
+    test_last_methods();
     test_method_order();
     test_specials();
     test_long_runs();
+    test_long_wraps();
     for (unsigned i = 0; i < 2500; i++)
         test_drawn(&draw);
     printf("gate model: %" PRIu64 " checks\n", checks);

@@ -28,30 +28,165 @@ enum { ANSWER_REFUSED = 20 };
 _Static_assert((int)REASON_COUNT <= (int)ANSWER_REFUSED, "no refusal is counted under a reason");
 _Static_assert(ANSWER_REFUSED + (int)REFUSAL_COUNT <= (int)ANSWERS, "every refusal has its answer");
 
-/* G27, G29: what a wrong reading would pass, a run from 0x1ffc on that came to no other method, and a call
- * whose next word needed no mark. */
+/* What a wrong reading would pass: a run that were followed from 0x1ffc to method 0, and a call whose next
+ * word needed no mark. */
 enum { MISREADING_NONE = 0, MISREADING_WRAP = 1, MISREADING_CALL = 2 };
+
+/* What is shown of reason 13: accepted with a run up to 0x1ffc, or with a non-increasing one that would go
+ * past it; 13 by one parameter, with 7, 8 or 9 behind it, or inside alone; 6 with 13 behind it. */
+enum {
+    WRAP_UP_TO = 1,
+    WRAP_STAYS = 2,
+    WRAP_BY_ONE = 3,
+    WRAP_LACKING = 4,
+    WRAP_FORBIDDEN = 5,
+    WRAP_MARKED = 6,
+    WRAP_INSIDE = 7,
+    WRAP_SHORT = 8
+};
 
 struct given given;
 
+/* ---- Runs and 0x1ffc ---- */
+
+/* G13: the method's number and the count of an increasing run with parameters: METHODS where it comes to
+ * 0x1ffc, and more where it goes past. Of any other command 0. */
+static uint32_t run_end(uint32_t place)
+{
+    struct reading command = command_of(&given, place);
+    bool has_end = command.number == READING_INCREASING && command.value[0] != 0;
+
+    return has_end ? command.value[2] / 4 + command.value[0] : 0;
+}
+
+/* Whether a non-increasing run has so many parameters that an increasing one would go past 0x1ffc. */
+static bool is_staying(uint32_t place)
+{
+    struct reading command = command_of(&given, place);
+
+    return command.number == READING_NON_INCREASING && command.value[2] / 4 + command.value[0] > METHODS;
+}
+
+/* G29: the number of the method to which parameter k of a run goes, on from 0 past the last. */
+static uint32_t method_at(struct reading command, uint32_t k)
+{
+    uint32_t method = command.value[2] / 4;
+
+    return command.number == READING_INCREASING ? (method + k) % METHODS : method;
+}
+
+/* G7: whether a parameter of a run goes to a method that the level lacks. */
+static bool is_lacking(uint32_t place)
+{
+    struct reading command = command_of(&given, place);
+
+    for (uint32_t k = 0; k < command.value[0]; k++)
+        if (!model_present(given.level, method_at(command, k)))
+            return true;
+    return false;
+}
+
+/* G8, G23: whether one goes to a method that the list, which may be short, doesn't permit. */
+static bool is_forbidden(uint32_t place)
+{
+    struct reading command = command_of(&given, place);
+
+    for (uint32_t k = 0; k < command.value[0]; k++) {
+        uint32_t bit = METHODS * command.value[1] + method_at(command, k);
+
+        if (bit / 8 >= given.permit_length || (given.permit[bit / 8] >> bit % 8 & 1) == 0)
+            return true;
+    }
+    return false;
+}
+
+/* G9: whether a parameter of a run is marked. They are all there. */
+static bool is_marked(uint32_t place)
+{
+    uint32_t count = command_of(&given, place).value[0];
+
+    for (uint32_t k = 1; k <= count; k++)
+        if (given.map[place + k] != 0)
+            return true;
+    return false;
+}
+
+/* G13, H2: whether a run leads to a word behind its parameters, unless it has reason 13. */
+static bool is_good_but_for_wrap(uint32_t place)
+{
+    return place + command_of(&given, place).value[0] + 1 < word_count(&given) && !is_lacking(place) &&
+           !is_forbidden(place);
+}
+
+void count_path(struct vectors *vectors, uint32_t answer, bool (*is_reached)(uint32_t pair))
+{
+    bool is_stopped = false;
+    bool is_led = false;
+
+    for (uint32_t pair = 0; pair < 2 * word_count(&given); pair++) {
+        uint32_t end = run_end(pair / 2);
+        uint32_t next = pair + 2 + 2 * command_of(&given, pair / 2).value[0];
+
+        if (end < METHODS || !is_reached(pair) || !is_good_but_for_wrap(pair / 2))
+            continue;
+        is_stopped = is_stopped || (end > METHODS && !is_reached(next));
+        is_led = is_led || (end == METHODS && is_reached(next));
+    }
+    if (is_stopped)
+        count_one(vectors, PATH, answer);
+    if (is_led)
+        count_one(vectors, PATH, answer + 1);
+}
+
 /* ---- Counts ---- */
 
-/* G8, G29: whether every method of a run is permitted but method 0, which it comes to past 0x1ffc. */
+static void count_wrap(struct vectors *vectors, bool is_shown, uint32_t answer)
+{
+    if (is_shown)
+        count_one(vectors, WRAP, answer);
+}
+
+/* WRAP of accepted words, by what a run of theirs shows. */
+static void count_accepted(struct vectors *vectors)
+{
+    bool comes_up_to = false;
+    bool stays = false;
+
+    for (uint32_t place = 0; place < word_count(&given); place++) {
+        if (given.map[place] == 0)
+            continue;
+        comes_up_to = comes_up_to || run_end(place) == METHODS;
+        stays = stays || is_staying(place);
+    }
+    count_wrap(vectors, comes_up_to, WRAP_UP_TO);
+    count_wrap(vectors, stays, WRAP_STAYS);
+}
+
+/* WRAP of a run that goes past 0x1ffc, by all that it shows. */
+static void count_wrapping(struct vectors *vectors, uint32_t place)
+{
+    count_wrap(vectors, run_end(place) == METHODS + 1, WRAP_BY_ONE);
+    count_wrap(vectors, is_lacking(place), WRAP_LACKING);
+    count_wrap(vectors, is_forbidden(place), WRAP_FORBIDDEN);
+    count_wrap(vectors, is_marked(place), WRAP_MARKED);
+    count_wrap(vectors, given.map[place] == STATE_SUBROUTINE, WRAP_INSIDE);
+}
+
+/* WRAP of a submission that isn't refused. */
+static void count_wraps(struct vectors *vectors, struct judgement judgement)
+{
+    if (judgement.reason == REASON_NONE)
+        count_accepted(vectors);
+    else if (judgement.reason == REASON_WRAPS)
+        count_wrapping(vectors, judgement.place);
+    else if (judgement.reason == REASON_PARAMETERS)
+        count_wrap(vectors, run_end(judgement.place) > METHODS, WRAP_SHORT);
+}
+
+/* G13, G26: whether nothing else is against the methods and the parameters of a run. */
 static bool is_decided_by_wrap(uint32_t place)
 {
-    struct submission submission = submission_of(&given);
-    struct reading command = command_of(&given, place);
-    uint32_t first = command.value[2] / 4;
-    struct judgement judgement;
-
-    if (command.number != READING_INCREASING || first + command.value[0] <= METHODS)
-        return false;
-    if ((given.permit[256 * command.value[1]] & 1) != 0)
-        return false;
-    set_permit(&given, command.value[1], 0, true);
-    judgement = model_judge(&submission);
-    set_permit(&given, command.value[1], 0, false);
-    return judgement.reason != REASON_PERMIT || judgement.place != place;
+    return !is_lacking(place) && !is_forbidden(place) && !is_marked(place);
 }
 
 /* G11, G27: whether the word after a call lacks its mark, but its target doesn't. */
@@ -65,7 +200,7 @@ static bool is_decided_by_call(uint32_t place)
 /* The misreading that would give another answer. */
 static uint32_t misreading(struct judgement judgement)
 {
-    if (judgement.reason == REASON_PERMIT && is_decided_by_wrap(judgement.place))
+    if (judgement.reason == REASON_WRAPS && is_decided_by_wrap(judgement.place))
         return MISREADING_WRAP;
     if (judgement.reason == REASON_UNMARKED && is_decided_by_call(judgement.place))
         return MISREADING_CALL;
@@ -88,6 +223,8 @@ static void put_judged(struct vectors *vectors, uint32_t kind, uint32_t *record,
                is_refused ? ANSWER_REFUSED + judgement.refusal : judgement.reason);
     if (is_refused)
         count_one(vectors, REFUSED, judgement.refusal);
+    else
+        count_wraps(vectors, judgement);
     if (misread != MISREADING_NONE)
         count_one(vectors, MISREADING, misread);
 }
@@ -227,22 +364,61 @@ static void give_run(struct draw *draw, uint32_t form, uint32_t count, uint32_t 
     permit_run(&given, 0);
 }
 
-/* G8, G29: increasing runs past 0x1ffc to method 0, which is permitted or not. */
+/* G6, G13, G26, G29: increasing runs up to 0x1ffc; past it to method 0, which is permitted or not, or on to
+ * methods that are lacking; and one of which a word is missing. */
 static void put_wraps(struct vectors *vectors)
 {
-    for (unsigned i = 0; i < 2 * 8 * SETTINGS; i++) {
-        uint32_t before = 1 + draw_below(&vectors->draw, 4);
-        uint32_t subchannel = i / 2 % 8;
+    static const struct {
+        uint32_t past;
+        bool is_permitted;
+        uint32_t missing;
+    } ways[] = {{0, false, 0}, {1, true, 0}, {1, false, 0}, {2, true, 0}, {1, true, 1}};
 
-        give_setting(i / 16);
-        give_run(&vectors->draw, 0, before + 1, subchannel, METHODS - before);
-        set_permit(&given, subchannel, 0, i % 2 == 0);
+    for (unsigned i = 0; i < 5 * 8 * SETTINGS; i++) {
+        uint32_t before = 1 + draw_below(&vectors->draw, 4);
+        uint32_t count = before + ways[i % 5].past;
+        uint32_t subchannel = i / 5 % 8;
+
+        give_setting(i / 40);
+        give_run(&vectors->draw, 0, count, subchannel, METHODS - before);
+        set_permit(&given, subchannel, 0, ways[i % 5].is_permitted);
+        set_count(&given, 1 + count - ways[i % 5].missing);
         put_judge(vectors);
     }
 }
 
-/* G7, G8, G23, G24, G29: a run of any method, of fewer parameters than a limit: one of its methods is not
- * permitted, or the one after it, or all are. */
+static void give_start(uint32_t place, uint32_t word, uint8_t mark)
+{
+    set_word(&given, place, word);
+    given.map[place] = mark;
+}
+
+/* G13: such runs inside, up to 0x1ffc and past it by one parameter. Before them is a jump in main, and
+ * behind them one inside, both onto themselves. */
+static void put_inside_wraps(struct vectors *vectors)
+{
+    for (unsigned i = 0; i < 2 * 3 * SETTINGS; i++) {
+        uint32_t before = 1 + draw_below(&vectors->draw, 4);
+        uint32_t subchannel = draw_below(&vectors->draw, 8);
+        uint32_t count = before + i % 2;
+        uint32_t behind = 2 + count;
+
+        give_setting(i / 6);
+        set_count(&given, behind + 1);
+        fill_permit(&given, 0);
+        give_start(0, 0x20000000, STATE_MAIN);
+        give_start(1, count << 18 | subchannel << 13 | (METHODS - before) << 2, STATE_SUBROUTINE);
+        for (uint32_t place = 2; place < behind; place++)
+            give_start(place, draw_word(&vectors->draw), 0);
+        give_start(behind, 0x20000000 | 4 * behind, STATE_SUBROUTINE);
+        permit_run(&given, 1);
+        put_judge(vectors);
+    }
+}
+
+/* G7, G8, G13, G23, G24, G29: a run of any method, of fewer parameters than a limit: one of its methods is
+ * not permitted, or the one after it, or all are. Some come to 0x1ffc with their last parameter, or with the
+ * one before. */
 static void put_run(struct vectors *vectors, uint32_t limit)
 {
     struct draw *draw = &vectors->draw;
@@ -250,8 +426,9 @@ static void put_run(struct vectors *vectors, uint32_t limit)
     uint32_t count = draw_below(draw, limit);
     uint32_t subchannel = draw_below(draw, 8);
     uint32_t low = draw_below(draw, 0x40);
-    uint32_t methods[] = {low, 0x40 + low, METHODS - 1 - low, draw_below(draw, METHODS)};
-    uint32_t method = draw_among(draw, methods, 4);
+    uint32_t last = METHODS - count;
+    uint32_t methods[] = {low, 0x40 + low, METHODS - 1 - low, draw_below(draw, METHODS), last, last + 1};
+    uint32_t method = draw_among(draw, methods, 6) % METHODS;
     uint32_t other = (method + draw_below(draw, count + 2)) % METHODS;
 
     give_setting(draw_below(draw, SETTINGS));
@@ -379,9 +556,14 @@ static void put_larges(struct vectors *vectors)
         {2, 0, 4 * ALL, ALL, 2048, 0xff, 0x01, 1},
         {5, 0, 4 * ALL, ALL, 2048, 0xff, 0x04, 1},
         {5, 0, 4 * ALL, ALL, 2048, 0x7f, 0x04, 3},
-        /* 1,799 parameters: past the end by one, or past 0x1ffc to methods that the level lacks. */
+        /* 16 parameters for a method that no level has. */
+        {1, 0, 4 * ALL, ALL, 2048, 0xff, 0x40, 1},
+        /* 1,799 parameters from method 1,799 on: past the end by one, or past 0x1ffc; 1,028 from method
+         * 1,028 on, past it too; 771 from method 771 on, which aren't. */
         {1, 0, 4 * 1799, 1799, 2048, 0xff, 0x1c, 1},
         {1, 0, 4 * 1800, 1800, 2048, 0xff, 0x1c, 1},
+        {0, 0, 4 * ALL, ALL, 2048, 0x00, 0x10, 3},
+        {0, 0, 4 * ALL, ALL, 2048, 0xff, 0x0c, 3},
     };
 
     for (size_t i = 0; i < sizeof rows / sizeof rows[0]; i++)
@@ -393,11 +575,12 @@ static void put_larges(struct vectors *vectors)
 int main(int count, char **arguments)
 {
     /* JUDGE and LARGE are counted by the reason, 0 where accepted, or by 20 plus the refusal; REFUSED by the
-     * refusal, MISREADING by what is caught. REPAIR, WIDE and SEARCH by the refusal, 0 where there is none,
-     * READ by the reading's number. */
+     * refusal, MISREADING by what is caught, WRAP by what is shown of runs and 0x1ffc. REPAIR, WIDE and
+     * SEARCH by the refusal, 0 where there is none, READ by the reading's number. */
     static const char *const names[] = {
-        "JUDGE",  "LARGE", "REPAIR", "WIDE",  "SEARCH", "READ",  "REFUSED", "MISREADING", "CHANGED",
-        "CHANGE", "MARK",  "BAD",    "SHORT", "FOUND",  "ORDER", "SETTING", "LIST",       "CUT",
+        "JUDGE",      "LARGE",   "REPAIR", "WIDE", "SEARCH", "READ",  "REFUSED",
+        "MISREADING", "CHANGED", "CHANGE", "MARK", "BAD",    "SHORT", "FOUND",
+        "ORDER",      "SETTING", "LIST",   "CUT",  "WRAP",   "PATH",
     };
     static struct vectors vectors = {.draw = {0x5eed}};
 
@@ -406,6 +589,7 @@ int main(int count, char **arguments)
     put_empty(&vectors);
     put_one_word(&vectors);
     put_wraps(&vectors);
+    put_inside_wraps(&vectors);
     put_runs(&vectors);
     put_drawn(&vectors);
     put_larges(&vectors);

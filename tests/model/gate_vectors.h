@@ -27,7 +27,9 @@ enum {
     ORDER = 15,
     SETTING = 16,
     LIST = 17,
-    CUT = 18
+    CUT = 18,
+    WRAP = 19,
+    PATH = 20
 };
 
 /* What a record can hold of words, and of bytes of the permit list that aren't the fill byte. */
@@ -59,6 +61,12 @@ size_t add_bytes(uint32_t *record, const uint8_t *bytes, size_t length);
 
 /* A number of entries of a room, and these, the lower half first. */
 size_t add_entries(uint32_t *record, const uint64_t *room, size_t length);
+
+/* G13, H2: PATH of a repair or a search that was done, by the first of its two answers where a reached run
+ * goes past 0x1ffc, and only for that nothing follows, by the next where what follows a run up to 0x1ffc is
+ * reached. A pair is given by its number. */
+enum { PATH_REPAIR = 1, PATH_SEARCH = 3 };
+void count_path(struct vectors *vectors, uint32_t answer, bool (*is_reached)(uint32_t pair));
 
 /* ---- The kinds of record that came later, each with drawn numbers of its own (gate_repairs.c,
  * gate_searches.c) ---- */

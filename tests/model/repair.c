@@ -39,8 +39,9 @@ static bool is_permitted(const struct search *search, uint32_t subchannel, uint3
     return bit / 8 < search->permit_length && (search->permit[bit / 8] & 1U << bit % 8) != 0;
 }
 
-/* G6, G7, G8, G29: whether a run's parameters are all there, and each goes to a method that the level has
- * and the list permits. In which order that is asked makes no difference to the search. */
+/* G6, G7, G8, G13, G29: whether a run's parameters are all there, and each goes to a method that isn't past
+ * the last, that the level has and the list permits. In which order that is asked makes no difference to the
+ * search. */
 static bool is_good_run(const struct search *search, uint32_t place, struct reading run)
 {
     uint32_t method = run.value[2] / 4;
@@ -48,10 +49,13 @@ static bool is_good_run(const struct search *search, uint32_t place, struct read
     if (place + run.value[0] >= word_total(search))
         return false;
     for (uint32_t left = run.value[0]; left != 0; left--) {
+        /* G13: 0x1ffc had its parameter, and there is another. */
+        if (method == METHODS)
+            return false;
         if (!model_present(search->setting.level, method) || !is_permitted(search, run.value[1], method))
             return false;
         if (run.number == READING_INCREASING)
-            method = (method + 1) % METHODS;
+            method++;
     }
     return true;
 }
@@ -64,8 +68,8 @@ struct numbers {
 
 static const struct numbers no_numbers = {0, {0, 0}};
 
-/* G3, G4, G5, G27: the next pairs of one that has none of the reasons 3 to 8; of one that has, none. What
- * reads as a long form has reason 3 in IB mode too, and so does what a refused setting reads. */
+/* G3, G4, G5, G27: the next pairs of one that has none of the reasons 3 to 8 and 13; of one that has, none.
+ * What reads as a long form has reason 3 in IB mode too, and so does what a refused setting reads. */
 static struct numbers numbers_after(const struct search *search, uint32_t pair)
 {
     uint32_t inside = pair % 2;

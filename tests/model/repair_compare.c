@@ -366,18 +366,18 @@ static void give_uniform(uint32_t size, uint32_t word, uint8_t byte)
         set_word(&given, place, word);
 }
 
-/* R8, R11, R37: as many words as there can be, and one more: count 0, conditionals, the longest run, jumps
- * to place 0, to the last place and to the end, a call of the last place; with rooms that fit or are one
- * short. */
+/* R8, R11, R37, G13: as many words as there can be, and one more: count 0, conditionals, the longest run up
+ * to 0x1ffc, one past it, the longest non-increasing one, jumps to place 0, to the last place and to the
+ * end, a call of the last place; with rooms that fit or are one short. */
 static void test_uniforms(void)
 {
-    static const uint32_t words[] = {0x00000000, 0x00010010, 0x1ffc0100, 0x20000000,
-                                     0x20007ffc, 0x00008001, 0x00007ffe};
+    static const uint32_t words[] = {0x00000000, 0x00010010, 0x1f000100, 0x1ffc0100, 0x5ffc0100,
+                                     0x20000000, 0x20007ffc, 0x00008001, 0x00007ffe};
 
-    for (unsigned i = 0; i < 7 * 3 * 2; i++) {
-        uint32_t size = REPAIR_LIMIT + i / 21;
+    for (unsigned i = 0; i < 9 * 3 * 2; i++) {
+        uint32_t size = REPAIR_LIMIT + i / 27;
 
-        give_uniform(size, words[i % 7], (uint8_t)(255 - i / 7 % 3 * 127));
+        give_uniform(size, words[i % 9], (uint8_t)(255 - i / 9 % 3 * 127));
         set_word(&given, size - 1, 0x00020000);
         compare_twice(size, 2 * size);
         compare(size - 1, 2 * size);

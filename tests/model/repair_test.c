@@ -193,7 +193,7 @@ static uint32_t upper(size_t i)
 
 enum { ROW_WORDS = 6 };
 
-/* H2, H9, H11: words, all methods permitted, with the pairs that are found, in order, and from where. */
+/* G13, H2, H9, H11: words, all methods permitted, and the pairs that are found, in order, and from where. */
 static const struct search_row {
     const char *sentence;
     uint32_t level;
@@ -226,6 +226,20 @@ static const struct search_row {
     {"nothing follows reason 5", 2, 0, 0, 2, {0x20000, 0}, 1, {0}, {0}},
     {"nothing follows reason 6", 0, 0, 0, 3, {0xc0100, 0, 0}, 1, {0}, {0}},
     {"nothing follows reason 7", 0, 0, 0, 3, {0x40050, 0, 0}, 1, {0}, {0}},
+    {"nothing follows reason 13", 0, 0, 0, 4, {0x81ffc, 0, 0, 0}, 1, {0}, {0}},
+    {"nothing follows reason 13", 5, 0, 1, 5, {0xcfff8, 0, 0, 0, 0}, 1, {0}, {0}},
+    {"nothing follows 13, with 7", 0, 0, 0, 5, {0xc1ffc, 0, 0, 0, 0}, 1, {0}, {0}},
+    {"13 in main alone", 2, 0, 0, 6, {0x12, 0x81ffc, 0, 0, 0, 0x20000}, 4, {0, 9, 2, 11}, {0, 0, 0, 9}},
+    {"13 inside alone", 2, 0, 0, 6, {0xa, 0x19, 0x81ffc, 0, 0, 0x20000}, 3, {0, 5, 2}, {0, 0, 0}},
+    {"13 in both states", 2, 0, 0, 5, {0x6, 0x81ffc, 0, 0, 0}, 3, {0, 3, 2}, {0, 0, 0}},
+    {"13 in IB mode", 4, 1, 0, 4, {0x81ffc, 0, 0, 0}, 1, {0}, {0}},
+    {"a run up to 0x1ffc", 0, 0, 0, 4, {0x81ff8, 0, 0, 0}, 2, {0, 6}, {0, 0}},
+    {"one parameter for 0x1ffc", 0, 0, 0, 3, {0x41ffc, 0, 0}, 2, {0, 4}, {0, 0}},
+    {"count 0 at 0x1ffc", 0, 0, 0, 2, {0x1ffc, 0}, 2, {0, 2}, {0, 0}},
+    {"a non-increasing run at 0x1ffc", 1, 0, 0, 4, {0x40081ffc, 0, 0, 0}, 2, {0, 6}, {0, 0}},
+    {"up to 0x1ffc inside", 2, 0, 0, 6, {0xa, 0x19, 0x81ff8, 0, 0, 2 << 16}, 4, {0, 5, 2, 11}, {0, 0, 0, 5}},
+    {"a run up to 0x1ffc in IB mode", 5, 1, 1, 4, {0x81ff8, 0, 0, 0}, 2, {0, 6}, {0, 0}},
+    {"at 0x1ffc in IB mode", 4, 1, 0, 4, {0x40081ffc, 0, 0, 0}, 2, {0, 6}, {0, 0}},
     {"nothing follows reason 10", 0, 0, 0, 2, {0x2000000c, 0}, 1, {0}, {0}},
     {"a call with 10 finds neither", 2, 0, 0, 2, {0xe, 0}, 1, {0}, {0}},
     {"a call with 12 finds neither", 2, 0, 0, 2, {0xa, 0}, 1, {0}, {0}},
@@ -348,33 +362,41 @@ static void test_permit_lengths(void)
         }
 }
 
-/* G8, G29: runs past 0x1ffc come to method 0, and a list whose end lies within a run ends what follows. */
+/* One run of subchannel 7, and two words that are 0 behind its parameters. The method is a number. */
+static void give_run(uint32_t kind, uint32_t count, uint32_t method)
+{
+    uint32_t words[] = {kind << 30 | count << 18 | 7 << 13 | method << 2};
+
+    give_words(1, 0, words, 1);
+    mode = MODE_NV04;
+    set_count(&given, count + 3);
+    memset(given.words + 4, 0, 4 * (count + 2));
+}
+
+/* G8, G13, G29: runs up to 0x1ffc and past it, whether or not method 0 is permitted; and a list whose end
+ * lies within a run ends what follows. */
 static void test_runs(void)
 {
     for (uint32_t kind = 0; kind < 2; kind++)
         for (uint32_t before = 1; before <= 9; before++)
-            for (size_t length = 2046; length <= 2048; length++) {
-                uint32_t words[] = {kind << 30 | (before + 1) << 18 | 7 << 13 | (2048 - before) << 2};
-                bool is_past = before <= 8 ? length < 2048 : length < 2047 || (kind == 0 && length < 2048);
+            for (unsigned i = 0; i < 3 * 3 * 2; i++) {
+                size_t length = 2046 + i % 3;
+                uint32_t past = i / 3 % 3;
+                bool is_cut = before <= 8 ? length < 2048 : length < 2047 || (kind == 0 && length < 2048);
+                bool is_wrapping = kind == 0 && past != 0;
 
-                give_words(1, 0, words, 1);
-                mode = MODE_NV04;
-                set_count(&given, before + 3);
-                memset(given.words + 4, 0, 4 * (before + 2));
-                for (unsigned i = 0; i < 2; i++) {
-                    fill_permit(&given, 0xff);
-                    set_permit(&given, 7, 0, i == 0);
-                    given.permit_length = length;
-                    do_search(2 * (before + 3));
-                    check(searched.count == (is_past || (kind == 0 && i == 1) ? 1 : 2), "methods of a run");
-                }
+                give_run(kind, before + past, 2048 - before);
+                set_permit(&given, 7, 0, i / 9 == 0);
+                given.permit_length = length;
+                do_search(2 * word_count(&given));
+                check(searched.count == (is_cut || is_wrapping ? 1 : 3), "methods of a run");
             }
 }
 
 /* ---- The repair by hand ---- */
 
-/* H3, H4, H5, H12, H13, H17: words with a map, and what the map becomes; how many places change, and whether
- * the gatekeeper accepts the new map. */
+/* G13, H3, H4, H5, H12, H13, H17: words with a map, and what the map becomes; how many places change, and
+ * whether the gatekeeper accepts the new map. */
 static const struct repair_row {
     const char *sentence;
     uint32_t level;
@@ -403,6 +425,12 @@ static const struct repair_row {
     {"a call as the last word", 2, 3, {0x9, 0x20000, 0x6}, {1, 1, 1}, {1, 2, 1}, 1, true},
     {"the end inside", 2, 2, {0x6, 0}, {1, 1}, {1, 3}, 1, false},
     {"nothing behind a flaw", 0, 3, {3, 0, 0}, {1, 1, 0}, {1, 0, 0}, 1, false},
+    {"nothing behind 13", 0, 4, {0x81ffc, 0, 0, 0}, {1, 0, 0, 1}, {1, 0, 0, 0}, 1, false},
+    {"13 inside", 2, 6, {0xa, 0x19, 0x81ffc, 0, 0, 2 << 16}, {1, 1, 2, 0, 0, 2}, {1, 1, 2}, 1, false},
+    {"13 where nothing leads", 0, 5, {0x20000010, 0x81ffc, 0, 0, 0}, {1, 1}, {1, 0, 0, 0, 1}, 2, true},
+    {"up to 0x1ffc", 0, 4, {0x81ff8, 0, 0, 0}, {1, 0, 0, 0}, {1, 0, 0, 1}, 1, true},
+    {"up to 0x1ffc inside", 2, 6, {0xa, 0x19, 0x81ff8, 0, 0, 2 << 16}, {1}, {1, 1, 2, 0, 0, 2}, 3, true},
+    {"at 0x1ffc, and not increasing", 1, 4, {0x40081ffc, 0, 0, 0}, {1}, {1, 0, 0, 1}, 1, true},
     {"neither pair of a bad call", 2, 2, {0xe, 0}, {0, 3}, {1, 0}, 2, false},
 };
 
@@ -665,6 +693,14 @@ static bool is_allowed(uint32_t pair, uint32_t k)
     return model_present(given.level, number % 2048) && (present >> number % 8 & 1) == 1;
 }
 
+/* G13: whether a run has more parameters than there are methods from its own on. */
+static bool is_overlong(uint32_t pair)
+{
+    struct reading command = command_at(pair);
+
+    return command.number == READING_INCREASING && parameters_of(pair) > 2048 - command.value[2] / 4;
+}
+
 /* G27: the next pairs, the end and beyond too; how many there are. */
 static unsigned next_pairs(uint32_t pair, uint32_t next[2])
 {
@@ -689,7 +725,7 @@ static unsigned next_pairs(uint32_t pair, uint32_t next[2])
     }
 }
 
-/* G3 to G8, G10, G12, H2: whether a pair has one of the reasons that stop a path. */
+/* G3 to G8, G10, G12, G13, H2: whether a pair has one of the reasons that stop a path. */
 static bool has_flaw(uint32_t pair)
 {
     static const bool is_command[] = {[1] = true, [2] = true, [3] = true, [4] = true,
@@ -699,7 +735,7 @@ static bool has_flaw(uint32_t pair)
     unsigned count = next_pairs(pair, next);
     bool flaw = !is_command[number] || (number == READING_CALL && pair % 2 == 1) ||
                 (number == READING_RETURN && pair % 2 == 0) ||
-                pair / 2 + parameters_of(pair) >= word_count(&given);
+                pair / 2 + parameters_of(pair) >= word_count(&given) || is_overlong(pair);
 
     for (uint32_t k = 0; k < parameters_of(pair) && !flaw; k++)
         flaw = !is_allowed(pair, k);

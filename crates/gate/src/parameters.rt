@@ -1,7 +1,8 @@
 // The parameters of a command: how many there are, and which methods they go to.
 ghost use mathlib.Core.Path.{_≡_};
-ghost use mathlib.Core.Bool.{true, false};
-ghost use Prim.Native.Nat.{ℕ};
+ghost use mathlib.Core.Bool.{true, false, _&&_};
+ghost use Prim.Native.Nat.{ℕ, _+_};
+ghost use lib.Dec.{ltb};
 ghost use Rattle.word.specs.Reading.{parameterCount};
 ghost use Rattle.word.specs.Special.{presentOf};
 ghost use Rattle.rules.specs.Permit.{permits};
@@ -72,6 +73,17 @@ fn method_for(methods: Methods, k: u32) -> u32
         return ((methods.method as u64 + k as u64) % 2048) as u32;
     }
     methods.method
+}
+
+// Whether a run of so many parameters, and of at least one, goes past 0x1ffc, to method 0: only one whose
+// methods rise does.
+pub(crate) fn wraps(methods: Methods, count: u32) -> bool
+    ensures { λ r. ⌜ r ≡ methods .increasing && ltb 2048 (methods .method + count) ⌝ }
+{
+    if methods.increasing {
+        return 2048 < methods.method as u64 + count as u64;
+    }
+    false
 }
 
 // Whether no parameter goes to a method below 0x100: the first one's is above, and the last comes before

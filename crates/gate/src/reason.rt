@@ -19,6 +19,7 @@ use crate::parameters::any_denied;
 use crate::parameters::any_lacking;
 use crate::parameters::methods_of;
 use crate::parameters::parameter_count;
+use crate::parameters::wraps;
 use rules::Finding;
 use rules::Nexts;
 use rules::Pair;
@@ -59,8 +60,8 @@ pub(crate) fn at_mark(
     next_reason(words, map, next)
 }
 
-// Reasons 3 to 8: those that a command has by itself, whatever the map. It is taken apart once, before the
-// tests, which then go by numbers; without parameters there is nothing to try of them.
+// Reasons 3 to 8 and 13: those that a command has by itself, whatever the map. It is taken apart once,
+// before the tests, which then go by numbers; without parameters there is nothing to try of them.
 pub fn own_reason(
     setting: Setting,
     words: &[u8],
@@ -95,6 +96,11 @@ pub fn own_reason(
     }
     if count == 0 {
         return Finding::Nothing;
+    }
+    if wraps(methods, count) {
+        return Finding::Against {
+            reason: Reason::WRAPS,
+        };
     }
     if any_lacking(setting, methods, count) {
         return Finding::Against {

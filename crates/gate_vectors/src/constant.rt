@@ -15,4 +15,5 @@ pub(crate) fn constants() {
     expect(Reason::TARGET_PAST.number == 10);
     expect(Reason::NOT_MARKED.number == 11);
     expect(Reason::END_INSIDE.number == 12);
+    expect(Reason::WRAPS.number == 13);
 }

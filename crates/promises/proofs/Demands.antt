@@ -21,6 +21,7 @@ use Rattle.rules.proofs.ExactIsOne as rules-exact
 use Rattle.rules.proofs.ExactMap as rules-exact-map
 use Rattle.rules.proofs.Finds as rules-finds
 use Rattle.rules.proofs.Examples as rules-examples
+use Rattle.rules.proofs.NoneWraps as rules-none-wraps
 use Rattle.rules.proofs.Promises as rules
 use Rattle.rules.proofs.Reasons as rules-reasons
 use Rattle.rules.proofs.Sound as rules-sound
@@ -136,6 +137,7 @@ third =
       exact-is-one = rules-exact.exact-is-one;
       exact-map = rules-exact-map.exact-map;
       none-bad = rules.none-bad;
+      none-wraps = rules-none-wraps.none-wraps;
       finds = rules-finds.finds;
       search-tells = search.tells;
       repair-mended = repair.mended;

@@ -144,7 +144,9 @@ pub record Third : Type 0 where
   pub complete : rules.Complete
   pub exact-is-one : rules.ExactIsOne
   pub exact-map : rules.ExactMap
+  -- what is accepted has no bad place, and no run past the last method
   pub none-bad : rules.NoneBad
+  pub none-wraps : reasons.NoneWraps
   -- the pairs that are reached, as they are found one from another, and as the search's room tells them
   pub finds : rules.Finds
   pub search-tells : search.Tells

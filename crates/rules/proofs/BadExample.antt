@@ -1,12 +1,12 @@
--- `BadExample`: two words of which the first has one of the path rule's reasons, so that the second is not reached. Assumes nothing.
-use Prim.Native.Nat.{ℕ, zero, suc, _<_}
+-- `BadExample`: words of which the first has one of the path rule's reasons, so that no other is reached. Assumes nothing.
+use Prim.Native.Nat.{ℕ, zero, suc, _+_, _<_}
 use mathlib.Core.Path.{_≡_, refl, sym}
 use mathlib.Core.Bool.{Bool, false≢true}
-use mathlib.Core.List.{List, [], _∷_}
+use mathlib.Core.List.{List, _∷_}
 use mathlib.Core.Logic.{_⊎_, inl, inr, ⊎-elim}
 use mathlib.Core.Option.{none, some}
 use native.Mathlib.Omega.{arith}
-use lib.ListN.{getD}
+use lib.ListN.{getD, replicate, length-replicate, getD-replicate}
 use Rattle.word.specs.First.{first}
 use Rattle.rules.specs.Map.{main}
 use Rattle.rules.specs.Reason.{Submission, submission, size, flawAt}
@@ -15,8 +15,8 @@ use Rattle.rules.specs.Path.{Reached, origin, onward, Bad, flawed, Exact
 use Rattle.rules.specs.Examples.{BadExample}
 use Rattle.rules.proofs.Table.{sized}
 
--- Two words, with one of the path rule's reasons at place 0 in main:
-module _ (x : Submission) (two : size x ≡ 2) (n : ℕ) (flaw : flawAt x 0 main ≡ some n) where
+-- Words with one of the path rule's reasons at place 0 in main:
+module _ (x : Submission) (more : ℕ) (words : size x ≡ more + 1) (n : ℕ) (flaw : flawAt x 0 main ≡ some n) where
   not-fine : flawAt x 0 main ≡ none → ⊥
   not-fine e = let z : _≡_ {A = ℕ} 0 1 = cc in omega arith
 
@@ -31,29 +31,27 @@ module _ (x : Submission) (two : size x ≡ 2) (n : ℕ) (flaw : flawAt x 0 main
 
   -- the map marks it alone
   abbrev alone : List ℕ
-  alone = 1 ∷ 0 ∷ []
+  alone = 1 ∷ replicate more 0
 
-  byte-of : (p : ℕ) → p < 2 → ((p ≡ 0) × (getD alone p 0 ≡ 1)) ⊎ (getD alone p 0 ≡ 0)
+  byte-of : (p : ℕ) → p < size x → ((p ≡ 0) × (getD alone p 0 ≡ 1)) ⊎ (getD alone p 0 ≡ 0)
   byte-of zero l = inl (refl, refl)
-  byte-of (suc zero) l = inr refl
-  byte-of (suc (suc p)) l = absurd (omega arith)
+  byte-of (suc p) l = inr (getD-replicate more p 0 0 (omega arith))
 
   exact : Exact x alone
   exact =
-      let byte : (p : ℕ) → p < size x → ((p ≡ 0) × (getD alone p 0 ≡ 1)) ⊎ (getD alone p 0 ≡ 0) = λ p l. byte-of p (omega arith) in
       record {
-        bytes = sym two;
-        narrow = λ p l. ⊎-elim (λ h. omega (arith, h .1)) (λ z. omega arith) (byte p l);
-        in-main = λ p l. (λ e. ⊎-elim (λ h. rw (h .0) (origin (omega arith))) (λ z. absurd (omega arith)) (byte p l), λ r. rw (no-other r .0) refl);
-        in-subroutine = λ p l. (λ e. ⊎-elim (λ h. absurd (omega (arith, h .1))) (λ z. absurd (omega arith)) (byte p l), λ r. absurd (false≢true (sym (no-other r .1))));
+        bytes = let rest = length-replicate {A = ℕ} more 0 in omega arith;
+        narrow = λ p l. ⊎-elim (λ h. omega (arith, h .1)) (λ z. omega arith) (byte-of p l);
+        in-main = λ p l. (λ e. ⊎-elim (λ h. rw (h .0) (origin (omega arith))) (λ z. absurd (omega arith)) (byte-of p l), λ r. rw (no-other r .0) refl);
+        in-subroutine = λ p l. (λ e. ⊎-elim (λ h. absurd (omega (arith, h .1))) (λ z. absurd (omega arith)) (byte-of p l), λ r. absurd (false≢true (sym (no-other r .1))));
       }
 
 pub bad-example :
-    (level : ℕ) (sli : Bool) (bytes list : List ℕ) (n : ℕ)
-    → first (judgeCases 1048576 level sli bytes (1 ∷ 0 ∷ []) list) ≡ none
-    → size (submission (settingOf level sli) bytes list) ≡ 2
+    (level : ℕ) (sli : Bool) (bytes list : List ℕ) (more n : ℕ)
+    → first (judgeCases 1048576 level sli bytes (1 ∷ replicate more 0) list) ≡ none
+    → size (submission (settingOf level sli) bytes list) ≡ more + 1
     → flawAt (submission (settingOf level sli) bytes list) 0 main ≡ some n
-    → BadExample level sli bytes (1 ∷ 0 ∷ []) list 0
-bad-example level sli bytes list n table two flaw =
+    → BadExample level sli bytes (1 ∷ replicate more 0) list 0
+bad-example level sli bytes list more n table words flaw =
     let x = submission (settingOf level sli) bytes list in
-    record { sized = sized level sli bytes (1 ∷ 0 ∷ []) list table; bad = bad x two n flaw; exact = exact x two n flaw }
+    record { sized = sized level sli bytes (1 ∷ replicate more 0) list table; bad = bad x more words n flaw; exact = exact x more words n flaw }

@@ -22,18 +22,19 @@ pub record NoneOwn (x : Submission) (d : Reading) (p : ℕ) (s : Bool) : Type 0 
   pub call-inside : call? d && s ≡ false
   pub return-outside : return? d && not s ≡ false
   pub short : ltb (size x) (parameters.placeAfter d p) ≡ false
+  pub wraps : parameters.wraps d ≡ false
   pub lacking : parameters.lacking (x .setting) d ≡ false
   pub denied : parameters.denied (x .permit) d ≡ false
 
 module _ (x : Submission) (d : Reading) (p : ℕ) (s : Bool) where
   named-own : Fails (ownCases x d p s) → NoneOwn x d p s
-  named-own (reserved, (call-inside, (return-outside, (short, (lacking, (denied, end)))))) =
-      record { reserved = reserved; call-inside = call-inside; return-outside = return-outside; short = short; lacking = lacking; denied = denied }
+  named-own (reserved, (call-inside, (return-outside, (short, (wraps, (lacking, (denied, end))))))) =
+      record { reserved = reserved; call-inside = call-inside; return-outside = return-outside; short = short; wraps = wraps; lacking = lacking; denied = denied }
 
   pub none-own : first (ownCases x d p s) ≡ none ↔ NoneOwn x d p s
   none-own = (
     λ e. named-own (none-fails (ownCases x d p s) e),
-    λ n. fails-none (ownCases x d p s) (n .reserved, (n .call-inside, (n .return-outside, (n .short, (n .lacking, (n .denied, tt)))))),
+    λ n. fails-none (ownCases x d p s) (n .reserved, (n .call-inside, (n .return-outside, (n .short, (n .wraps, (n .lacking, (n .denied, tt))))))),
   )
 
 -- of those of a next pair none is

@@ -21,12 +21,12 @@ use Rattle.word.proofs.Lowest.{found-none}
 use Rattle.word.proofs.Tests.{both, or-plain}
 use Rattle.rules.specs.Permit.{permits}
 use Rattle.rules.specs.Map.{main, inside, marked, unmarked, overThree, starts, among}
-use Rattle.rules.specs.Parameters.{methodsOf, methodFor, anyFails, lacking, denied}
+use Rattle.rules.specs.Parameters.{methodsOf, methodFor, wraps, anyFails, lacking, denied}
 use Rattle.rules.specs.Next.{nexts}
 use Rattle.rules.specs.Reason.{reserved?, call?, return?, Submission, submission, size, commandAt, firstReason, flawAt}
 use Rattle.rules.specs.Judging.{judgeCases, firstOf, placeVerdict, startVerdict, atMark, placeOf, stateOf, refusedPair, refusedAt, numberedPair, firstRefused, pairVerdict, verdictOf, settingOf}
 use Rattle.rules.specs.Path.{OneOf, Reached, origin, onward}
-use Rattle.rules.specs.Examples.{Example, nothing, byteAlone, printed, subroutine, over, oldOver, conditional, countless, subchannelOne, threeParameters, callPast, Examples}
+use Rattle.rules.specs.Examples.{Example, nothing, everything, byteAlone, printed, subroutine, over, oldOver, conditional, countless, subchannelOne, threeParameters, upToTheLast, pastTheLast, callPast, Examples}
 use Rattle.rules.specs.declared.pair.Pair.{Pair}
 use Rattle.rules.specs.declared.judging.Verdict.the-variants.{Accepted}
 use Rattle.rules.proofs.Scans.{found-plain}
@@ -123,7 +123,7 @@ module _ (level : ℕ) (sli : Bool) (bytes map list : List ℕ) where
       }
 
 pub examples : Examples
-unfolding followed leads isOne sameState verdictOf firstOf placeVerdict startVerdict atMark refusedPair refusedAt numberedPair firstRefused pairVerdict keep lowest found? choose first refusedOr hasBits numbersIn inMode increasing nonIncreasing sliConditional returning long oldJump jump call everythingElse forms formIn whyNot nowhere? usable commandIn readingOf readOf specials listed presentOf wordsOf permits marked unmarked overThree starts among number parameterCount methodsOf methodFor anyFails lacking denied reserved? call? return? nexts firstReason
+unfolding followed leads isOne sameState verdictOf firstOf placeVerdict startVerdict atMark refusedPair refusedAt numberedPair firstRefused pairVerdict keep lowest found? choose first refusedOr hasBits numbersIn inMode increasing nonIncreasing sliConditional returning long oldJump jump call everythingElse forms formIn whyNot nowhere? usable commandIn readingOf readOf specials listed presentOf wordsOf permits marked unmarked overThree starts among number parameterCount methodsOf methodFor wraps anyFails lacking denied reserved? call? return? nexts firstReason
 examples =
     record {
       printed-case = example 3 false printed (1 ∷ 0 ∷ []) (byteAlone 2 0x10) refl refl refl;
@@ -134,5 +134,7 @@ examples =
       count-zero = example 0 false countless (1 ∷ []) nothing refl refl refl;
       other-subchannel = example 0 false subchannelOne (1 ∷ 0 ∷ []) (byteAlone 268 0x01) refl refl refl;
       non-increasing-run = example 1 false threeParameters (1 ∷ 0 ∷ 0 ∷ 0 ∷ []) (byteAlone 2047 0x80) refl refl refl;
-      call-past-the-end = bad-example 2 false callPast nothing 10 refl refl refl;
+      run-up-to-the-last = example 0 false upToTheLast (1 ∷ 0 ∷ 0 ∷ []) (byteAlone 255 0xc0) refl refl refl;
+      run-past-the-last = bad-example 0 false pastTheLast everything 3 13 refl refl refl;
+      call-past-the-end = bad-example 2 false callPast nothing 1 10 refl refl refl;
     }

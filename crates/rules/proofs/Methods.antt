@@ -1,9 +1,11 @@
 -- The methods that a command's parameters go to. Assumes nothing.
 use Prim.Native.Nat.{ℕ, _+_, _*_, _%_, _≤_, _<_}
 use mathlib.Core.Path.{_≡_, refl}
-use mathlib.Core.Bool.{Bool, true, false, not}
+use mathlib.Core.Bool.{Bool, true, false, not, and-false, false≢true}
 use mathlib.Core.List.{List}
+use mathlib.Core.Logic.{_↔_, Iff·rfl}
 use native.Mathlib.Omega.{arith}
+use lib.Dec.{ltb}
 use borrow.Author.Tests.{le-leb}
 use Rattle.word.specs.First.{choose}
 use Rattle.word.specs.Lowest.{lowest, found?}
@@ -14,9 +16,10 @@ use Rattle.word.specs.declared.reading.Reading.{Reading}
 use Rattle.word.specs.declared.reading.Reading.the-variants.{Increasing, NonIncreasing, Sli, Return, Long, OldJump, Jump, Call, Reserved, Refused}
 use Rattle.word.proofs.First.{by-test}
 use Rattle.word.proofs.Lowest.{none-found}
+use Rattle.word.proofs.Tests.{and-plain, less-plain}
 use Rattle.word.proofs.Told.{told}
-use Rattle.rules.specs.Parameters.{methodsOf, methodFor, anyFails, lacking, denied}
-use Rattle.rules.specs.Reasons.{GoesTo, increasing, non-increasing, long}
+use Rattle.rules.specs.Parameters.{methodsOf, methodFor, wraps, anyFails, lacking, denied}
+use Rattle.rules.specs.Reasons.{GoesTo, increasing, non-increasing, long, WrapsPlain}
 use Rattle.rules.specs.declared.parameters.Methods.{Methods}
 use Rattle.rules.proofs.Scans.{Passed, onward, passes, none-passes}
 
@@ -40,6 +43,19 @@ goes-only d k b n (increasing c m e v l is) = rw (told d (Increasing c b m) e v)
 goes-only d k b n (non-increasing c m e v l is) = rw (told d (NonIncreasing c b m) e v) (l, refl, is)
 goes-only d k b n (long m c e v l is) = rw (told d (Long b m c) e v) (l, refl, is)
 
+-- What wraps is an increasing command with a parameter, since that goes somewhere.
+over : (d : Reading) {k b n : ℕ} → GoesTo d k b n → methodsOf d .increasing ≡ true → 2048 < methodsOf d .method + parameterCount d → WrapsPlain d
+unfolding number values parameterCount methodsOf
+over d {k} {b} {n} (increasing c m e v l is) up past = (c, b, m, e, v, omega arith, rw (told d (Increasing c b m) e v) at past)
+over d {k} {b} {n} (non-increasing c m e v l is) up past = absurd (false≢true (rw (told d (NonIncreasing c b m) e v) at up))
+over d {k} {b} {n} (long m c e v l is) up past = absurd (false≢true (rw (told d (Long b m c) e v) at up))
+
+pub wraps-plain : (d : Reading) → wraps d ≡ true ↔ WrapsPlain d
+unfolding number values parameterCount methodsOf wraps
+wraps-plain d =
+    let parts = and-plain (methodsOf d .increasing) _ Iff·rfl (and-plain (ltb 0 (parameterCount d)) _ (less-plain 0 _) (less-plain 2048 _)) in
+    (λ e. let h = parts .0 e in over d (goes-to d 0 (h .1 .0)) (h .0) (h .1 .1), λ (c, b, m, e, v, some, past). parts .1 (rw (told d (Increasing c b m) e v) (refl, (some, past))))
+
 -- no level lacks a method from 0x100 up, where none of n is below
 pub above-special : (ms : Methods) (n : ℕ) → 0x40 ≤ ms .method → ms .method + n ≤ 2048 → (level : ℕ) → anyFails (presentOf level) ms n ≡ false
 unfolding anyFails methodFor presentOf
@@ -49,10 +65,10 @@ above-special ms n low high level =
     let high-enough : 0x100 ≤ 4 * choose (ms .increasing) ((ms .method + k) % 2048) (ms .method) = by-test (λ (m : ℕ). 0x100 ≤ 4 * m) (λ e. omega arith) (λ e. omega arith) in
     rw (le-leb 0x100 (4 * choose (ms .increasing) ((ms .method + k) % 2048) (ms .method)) high-enough))
 
--- where no parameters follow, no test fails
-pub none-fails : (setting : Setting) (list : List ℕ) (d : Reading) → parameterCount d ≡ 0 → (lacking setting d ≡ false) × (denied list d ≡ false)
-unfolding lacking denied anyFails lowest found?
-none-fails setting list d e = rw e (refl, refl)
+-- where no parameters follow, none goes past 0x1ffc, and no test fails
+pub none-fails : (setting : Setting) (list : List ℕ) (d : Reading) → parameterCount d ≡ 0 → (wraps d ≡ false) × (lacking setting d ≡ false) × (denied list d ≡ false)
+unfolding wraps lacking denied anyFails lowest found?
+none-fails setting list d e = rw e (and-false (methodsOf d .increasing), refl, refl)
 
 -- whether a test of methods fails at the method of parameter k
 unfoldable pub fails : (ℕ → Bool) → Methods → ℕ → Bool

@@ -37,7 +37,7 @@ use Rattle.rules.specs.declared.judging.Verdict.the-variants.{Accepted, 
 use Rattle.rules.proofs.Answers.{told-rejected, told-refused, finding-tells, none-tells}
 use Rattle.rules.proofs.Scans.{found-plain}
 use Rattle.rules.proofs.Parts.{permits-plain}
-use Rattle.rules.proofs.Methods.{goes-to, goes-only}
+use Rattle.rules.proofs.Methods.{goes-to, goes-only, wraps-plain}
 use Rattle.rules.proofs.Cases.{none-own, arrived, quiet}
 use Rattle.rules.proofs.Nexts.{nexts-plain, gives}
 use Rattle.rules.proofs.Clean.{numbered, none-wide, mark-none}
@@ -106,8 +106,8 @@ own-agree x d p s =
             less-plain (size x) (placeAfter d p),
             (
               refl,
-              fails-plain d (λ b. presentOf (x .setting .level .number)) absent,
-              (refl, fails-plain d (permits (x .permit)) unset, tt),
+              wraps-plain d,
+              (refl, fails-plain d (λ b. presentOf (x .setting .level .number)) absent, (refl, fails-plain d (permits (x .permit)) unset, tt)),
             ),
           ),
         ),

@@ -21,9 +21,12 @@ pub record BadExample (level : ℕ) (sli : Bool) (bytes map list : List ℕ) (p 
   pub bad : Bad (submission (settingOf level sli) bytes list) p
   pub exact : Exact (submission (settingOf level sli) bytes list) map
 
--- the list that permits nothing, and the one that permits what the bits of one byte say and nothing else
+-- the list that permits nothing, the one that permits everything, and the one that permits what the bits of one byte say and nothing else
 abbrev pub nothing : List ℕ
 nothing = replicate 2048 0x00
+
+abbrev pub everything : List ℕ
+everything = replicate 2048 0xff
 
 abbrev pub byteAlone : ℕ → ℕ → List ℕ
 byteAlone i byte = replicate i 0x00 ++ (byte ∷ replicate (2047 - i) 0x00)
@@ -59,11 +62,19 @@ subchannelOne = 0x80 ∷ 0x21 ∷ 0x04 ∷ 0x00 ∷ 0x07 ∷ 0x00 ∷ 0x00 ∷ 0
 abbrev pub threeParameters : List ℕ
 threeParameters = 0xfc ∷ 0xff ∷ 0x0c ∷ 0x40 ∷ 0x07 ∷ 0x00 ∷ 0x00 ∷ 0x00 ∷ 0x08 ∷ 0x00 ∷ 0x00 ∷ 0x00 ∷ 0x09 ∷ 0x00 ∷ 0x00 ∷ 0x00 ∷ []
 
+-- 0x00081ff8, two parameters for 0x1ff8 and 0x1ffc of subchannel 0, which the list permits alone
+abbrev pub upToTheLast : List ℕ
+upToTheLast = 0xf8 ∷ 0x1f ∷ 0x08 ∷ 0x00 ∷ 0x07 ∷ 0x00 ∷ 0x00 ∷ 0x00 ∷ 0x08 ∷ 0x00 ∷ 0x00 ∷ 0x00 ∷ []
+
+-- 0x00081ffc, two parameters for 0x1ffc and then 0, and a command after them
+abbrev pub pastTheLast : List ℕ
+pastTheLast = 0xfc ∷ 0x1f ∷ 0x08 ∷ 0x00 ∷ 0x07 ∷ 0x00 ∷ 0x00 ∷ 0x00 ∷ 0x08 ∷ 0x00 ∷ 0x00 ∷ 0x00 ∷ 0x00 ∷ 0x00 ∷ 0x00 ∷ 0x00 ∷ []
+
 -- a call of place 3, past the end, and a command after it
 abbrev pub callPast : List ℕ
 callPast = 0x0e ∷ 0x00 ∷ 0x00 ∷ 0x00 ∷ 0x00 ∷ 0x00 ∷ 0x00 ∷ 0x00 ∷ []
 
--- H1 to H5: the exact map of each, and that no place is bad, but for the last, of which one is
+-- H1 to H5: the exact map of each, and that no place is bad, but for the last two, which have one
 pub record Examples : Type 0 where
   pub printed-case : Example 3 false printed (1 ∷ 0 ∷ []) (byteAlone 2 0x10)
   pub with-subroutine : Example 2 false subroutine (1 ∷ 1 ∷ 2 ∷ []) nothing
@@ -73,4 +84,7 @@ pub record Examples : Type 0 where
   pub count-zero : Example 0 false countless (1 ∷ []) nothing
   pub other-subchannel : Example 0 false subchannelOne (1 ∷ 0 ∷ []) (byteAlone 268 0x01)
   pub non-increasing-run : Example 1 false threeParameters (1 ∷ 0 ∷ 0 ∷ 0 ∷ []) (byteAlone 2047 0x80)
+  -- G13: a run that ends at 0x1ffc, and one that goes past it
+  pub run-up-to-the-last : Example 0 false upToTheLast (1 ∷ 0 ∷ 0 ∷ []) (byteAlone 255 0xc0)
+  pub run-past-the-last : BadExample 0 false pastTheLast (1 ∷ 0 ∷ 0 ∷ 0 ∷ []) everything 0
   pub call-past-the-end : BadExample 2 false callPast (1 ∷ 0 ∷ []) nothing 0

@@ -1,7 +1,8 @@
 -- The parameters of a command, and the methods that they go to.
 use Prim.Native.Nat.{ℕ, _+_, _/_, _%_}
-use mathlib.Core.Bool.{Bool, true, false, not}
+use mathlib.Core.Bool.{Bool, true, false, not, _&&_}
 use mathlib.Core.List.{List}
+use lib.Dec.{ltb}
 use Rattle.word.specs.First.{choose}
 use Rattle.word.specs.Lowest.{lowest, found?}
 use Rattle.word.specs.Reading.{parameterCount}
@@ -35,6 +36,10 @@ methodsOf (Refused r) = noMethods
 -- G29: the method of parameter k, from 0
 unfoldable pub methodFor : Methods → ℕ → ℕ
 methodFor ms k = choose (ms .increasing) ((ms .method + k) % 2048) (ms .method)
+
+-- G13: it is increasing and has a parameter, and the number of its first method and its count make more than 2,048
+unfoldable pub wraps : Reading → Bool
+wraps d = methodsOf d .increasing && (ltb 0 (parameterCount d) && ltb 2048 (methodsOf d .method + parameterCount d))
 
 -- whether a test fails at the method of any of n parameters
 unfoldable pub anyFails : (ℕ → Bool) → Methods → ℕ → Bool

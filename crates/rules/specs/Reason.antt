@@ -11,7 +11,7 @@ use Rattle.word.specs.declared.setting.Setting.{Setting}
 use Rattle.word.specs.declared.reading.Reading.{Reading}
 use Rattle.word.specs.Lent.{wordsOf}
 use Rattle.rules.specs.Map.{among, unmarked}
-use Rattle.rules.specs.Parameters.{placeAfter, lacking, denied}
+use Rattle.rules.specs.Parameters.{placeAfter, wraps, lacking, denied}
 use Rattle.rules.specs.Next.{nexts}
 use Rattle.rules.specs.declared.pair.Pair.{Pair}
 use Rattle.rules.specs.declared.reason.Finding.{Finding}
@@ -54,6 +54,9 @@ NOT_MARKED = 11
 abbrev pub END_INSIDE : ℕ
 END_INSIDE = 12
 
+abbrev pub WRAPS : ℕ
+WRAPS = 13
+
 -- G21: what is submitted beside the map: the setting, in NV04-style, the words, and the list of permitted methods.
 pub record Submission : Type 0 where
   pub setting : Setting
@@ -80,13 +83,14 @@ call? d = eqb (number d) 8
 unfoldable pub return? : Reading → Bool
 return? d = eqb (number d) 4
 
--- The reasons of a command d at place p in state s, in the order in which they are tried. G3 to G8: its own.
+-- The reasons of a command d at place p in state s, in the order in which they are tried. G3 to G8, G13: its own.
 abbrev pub ownCases : Submission → Reading → ℕ → Bool → List Case
 ownCases x d p s =
     RESERVED when reserved? d
     ∷ CALL_INSIDE when (call? d && s)
     ∷ RETURN_OUTSIDE when (return? d && not s)
     ∷ SHORT when ltb (size x) (placeAfter d p)
+    ∷ WRAPS when wraps d
     ∷ NON_CACHE when lacking (x .setting) d
     ∷ NOT_PERMITTED when denied (x .permit) d
     ∷ []

@@ -18,7 +18,7 @@ use Rattle.rules.specs.Next.{_in-state_, nexts}
 use Rattle.rules.specs.Reason.{Submission, submission, size, commandAt, flawAt}
 use Rattle.rules.specs.Judging.{settingOf}
 use Rattle.rules.specs.Path.{Next}
-use Rattle.rules.specs.Answers.{findingNumber, refusedNumber, refusedPairIn, number, verdictRefusal, values}
+use Rattle.rules.specs.Answers.{findingNumber, refusedNumber, refusedPairIn, number, verdictRefusal, values, Accepts}
 use Rattle.rules.specs.Contracts.{FindsOwn, MarkedAmong, Arrives, NextPairs, FirstRefuses, Judges}
 use Rattle.rules.specs.Promises.{Permitted}
 use Rattle.rules.specs.declared.pair.Pair.{Pair}
@@ -55,7 +55,11 @@ pub data GoesTo (d : Reading) (k b n : ℕ) : Type 0 where
   non-increasing : (c m : ℕ) → reading.number d ≡ 2 → reading.values d ≡ c ∷ b ∷ m ∷ [] → k < c → n ≡ m / 4 → GoesTo d k b n
   long : (m c : ℕ) → reading.number d ≡ 5 → reading.values d ≡ b ∷ m ∷ c ∷ [] → k < c → n ≡ m / 4 → GoesTo d k b n
 
--- G3 to G8: the reasons of a command d at place p in state s that are its own: by its number a return is 4, the long form, none of
+-- G13: an increasing command, with a parameter, that goes past 0x1ffc: c is its count, and m the byte number of its method.
+abbrev pub WrapsPlain : Reading → Type 0
+WrapsPlain d = (c : ℕ) × (b : ℕ) × (m : ℕ) × (reading.number d ≡ 1) × (reading.values d ≡ c ∷ b ∷ m ∷ []) × (0 < c) × (2048 < m / 4 + c)
+
+-- G3 to G8, G13: the reasons of a command d at place p in state s that are its own: by its number a return is 4, the long form, none of
 -- NV04-style's, 5, a call 8, and a reserved word 9 or more.
 abbrev pub ownPlain : Submission → Reading → ℕ → Bool → List PlainCase
 ownPlain x d p s =
@@ -63,8 +67,9 @@ ownPlain x d p s =
     3 if ((reading.number d ≡ 5) ⊎ (9 ≤ reading.number d))
     ∷ 4 if ((reading.number d ≡ 8) × (s ≡ inside))
     ∷ 5 if ((reading.number d ≡ 4) × (s ≡ main))
-    -- parameters past the end, one to a method that the level lacks, one to a method that is not permitted
+    -- parameters past the end; a run past 0x1ffc; a parameter to a method that the level lacks, one to a method that is not permitted
     ∷ 6 if (size x < p + 1 + parameterCount d)
+    ∷ 13 if WrapsPlain d
     ∷ 7 if ((k : ℕ) × (b : ℕ) × (n : ℕ) × GoesTo d k b n × Presents (x .setting .level) n false)
     ∷ 8 if ((k : ℕ) × (b : ℕ) × (n : ℕ) × GoesTo d k b n × (Permitted (x .permit) b n → ⊥))
     ∷ []
@@ -135,6 +140,23 @@ Reasons =
     → (n p : ℕ)
     → ((number (r .verdict) ≡ some n) × (values (r .verdict) ≡ p ∷ []))
     ↔ Against (submission (settingOf level sli) bytes list) map n p
+
+-- G39: an increasing command at a marked pair of accepted words, c its count and m the byte number of its method, goes to methods that rise
+-- by one, all below 2,048: parameter k to number m / 4 + k, and to no other.
+abbrev pub NoneWraps : Type 0
+NoneWraps =
+    (level : ℕ) (sli : Bool) (bytes map list : List ℕ) (r : Judgement)
+    → Judges level sli bytes map list r
+    → Accepts (r .verdict)
+    → (p : ℕ) (s : Bool)
+    → Marks map p s
+    → let d = commandAt (submission (settingOf level sli) bytes list) p in
+    (c b m : ℕ)
+    → reading.number d ≡ 1
+    → reading.values d ≡ c ∷ b ∷ m ∷ []
+    → (k : ℕ)
+    → k < c
+    → (m / 4 + k < 2048) × ((a n : ℕ) → GoesTo d k a n ↔ ((a ≡ b) × (n ≡ m / 4 + k)))
 
 -- And of the functions that a judgement is made of.
 

@@ -29,6 +29,8 @@ impl Reason {
     pub const NOT_MARKED: Reason = Reason { number: 11 };
 
     pub const END_INSIDE: Reason = Reason { number: 12 };
+
+    pub const WRAPS: Reason = Reason { number: 13 };
 }
 
 // What speaks against a command where it stands, if anything does.
