@@ -86,15 +86,14 @@ pub(crate) fn wraps(methods: Methods, count: u32) -> bool
     false
 }
 
-// Whether no parameter goes to a method below 0x100: the first one's is above, and the last comes before
-// or to 0x1ffc.
+// Whether no parameter goes to a method below 0x100: the first one's is above, and they don't wrap.
 fn none_special(methods: Methods, count: u32) -> bool
     ensures { λ r. ⌜ (r ≡ true → (level : ℕ) → anyFails (presentOf level) methods count ≡ false) ⌝ }
 {
     if methods.method < 0x40 {
         return false;
     }
-    methods.method as u64 + count as u64 <= 2048
+    !wraps(methods, count)
 }
 
 // Whether the level lacks the method of any parameter. Most runs have none that is special.

@@ -23,6 +23,7 @@ use Rattle.rules.specs.Search.{listOf, exactMap}
 use Rattle.rules.specs.Promises.{judgePlain, Sized}
 use Rattle.rules.specs.Reasons.{Marks}
 use Rattle.rules.proofs.Table.{judge-agree, Fits, fits, passed}
+use Rattle.rules.proofs.Parts.{mark-within}
 use Rattle.rules.proofs.Clean.{clean}
 use Rattle.rules.proofs.Complete.{reached-marked}
 use Rattle.rules.proofs.Reasons.{agree-append, marked-plain}
@@ -162,14 +163,12 @@ again level sli l a b map list work map′ list′ work′ list-room work-room h
 
 -- an exact map marks only what is reached
 module _ (x : Submission) (map : List ℕ) (exact : Exact x map) where
+  within : (p : ℕ) (s : Bool) → Marks map p s → p < size x
+  within p s m = let here = mark-within map p s (marked-plain x map p s .1 m) in omega (arith, exact .bytes)
+
   marks-reached : (p : ℕ) (s : Bool) → Marks map p s → Reached x p s
-  marks-reached p s m = go (ltb p (size x)) refl s m
-    where
-      go : (t : Bool) → ltb p (size x) ≡ t → (s : Bool) → Marks map p s → Reached x p s
-      go true e false m = exact .in-main p (ltb-true _ _ e) .0 m
-      go true e true m = let n = exact .narrow p (ltb-true _ _ e) in exact .in-subroutine p (ltb-true _ _ e) .0 (omega arith)
-      go false e false m = absurd (let z = List·getD-eq-default map 0 {n = p} (rw (exact .bytes) (ltb-false p (size x) e)) in omega arith)
-      go false e true m = absurd (let z = List·getD-eq-default map 0 {n = p} (rw (exact .bytes) (ltb-false p (size x) e)) in omega arith)
+  marks-reached p false m = exact .in-main p (within p false m) .0 m
+  marks-reached p true m = let n = exact .narrow p (within p true m) in exact .in-subroutine p (within p true m) .0 (omega arith)
 
 pub none-lost : NoneLost
 none-lost level sli l a map list work r h e j ok p s m =

@@ -1,12 +1,12 @@
 -- The methods that a command's parameters go to. Assumes nothing.
 use Prim.Native.Nat.{ℕ, _+_, _*_, _%_, _≤_, _<_}
 use mathlib.Core.Path.{_≡_, refl}
-use mathlib.Core.Bool.{Bool, true, false, not, and-false, false≢true}
+use mathlib.Core.Bool.{Bool, true, false, not, _&&_, and-false, false≢true}
 use mathlib.Core.List.{List}
 use mathlib.Core.Logic.{_↔_, Iff·rfl}
 use native.Mathlib.Omega.{arith}
 use lib.Dec.{ltb}
-use borrow.Author.Tests.{le-leb}
+use borrow.Author.Tests.{le-leb, ltb-false}
 use Rattle.word.specs.First.{choose}
 use Rattle.word.specs.Lowest.{lowest, found?}
 use Rattle.word.specs.Reading.{number, values, parameterCount}
@@ -56,13 +56,14 @@ wraps-plain d =
     let parts = and-plain (methodsOf d .increasing) _ Iff·rfl (and-plain (ltb 0 (parameterCount d)) _ (less-plain 0 _) (less-plain 2048 _)) in
     (λ e. let h = parts .0 e in over d (goes-to d 0 (h .1 .0)) (h .0) (h .1 .1), λ (c, b, m, e, v, some, past). parts .1 (rw (told d (Increasing c b m) e v) (refl, (some, past))))
 
--- no level lacks a method from 0x100 up, where none of n is below
-pub above-special : (ms : Methods) (n : ℕ) → 0x40 ≤ ms .method → ms .method + n ≤ 2048 → (level : ℕ) → anyFails (presentOf level) ms n ≡ false
+-- no level lacks a method from 0x100 up, where the first of n is none below, and they don't go past 0x1ffc
+pub above-special : (ms : Methods) (n : ℕ) → 0x40 ≤ ms .method → ms .increasing && ltb 2048 (ms .method + n) ≡ false → (level : ℕ) → anyFails (presentOf level) ms n ≡ false
 unfolding anyFails methodFor presentOf
-above-special ms n low high level =
+above-special ms n low up level =
     none-found _ _
     (λ k l.
-    let high-enough : 0x100 ≤ 4 * choose (ms .increasing) ((ms .method + k) % 2048) (ms .method) = by-test (λ (m : ℕ). 0x100 ≤ 4 * m) (λ e. omega arith) (λ e. omega arith) in
+    let high-enough : 0x100 ≤ 4 * choose (ms .increasing) ((ms .method + k) % 2048) (ms .method) =
+    by-test (λ (m : ℕ). 0x100 ≤ 4 * m) (λ e. let high = ltb-false 2048 (ms .method + n) (rw e at up) in omega arith) (λ e. omega arith) in
     rw (le-leb 0x100 (4 * choose (ms .increasing) ((ms .method + k) % 2048) (ms .method)) high-enough))
 
 -- where no parameters follow, none goes past 0x1ffc, and no test fails

@@ -1,33 +1,22 @@
 -- `NoneWraps`: the runs of accepted words rise to 0x1ffc at most. Assumes nothing.
 use Prim.Native.Nat.{ℕ, _+_, _/_, _<_}
-use mathlib.Core.Path.{_≡_, refl, sym, _∙_}
-use mathlib.Core.Bool.{Bool, true, false, false≢true}
-use mathlib.Core.List.{List, [], _∷_}
+use mathlib.Core.Path.{_≡_, sym, _∙_}
+use mathlib.Core.Bool.{false, false≢true}
+use mathlib.Core.List.{[], _∷_}
 use mathlib.Core.Logic.{_↔_}
 use native.Mathlib.Omega.{arith}
-use lib.Dec.{ltb}
-use lib.ListN.{length, List·getD-eq-default}
-use borrow.Author.Tests.{ltb-true, ltb-false}
 use Rattle.word.specs.Reading.{number, values}
 use Rattle.word.specs.declared.reading.Reading.{Reading}
-use Rattle.rules.specs.Map.{marked}
 use Rattle.rules.specs.Parameters.{wraps}
-use Rattle.rules.specs.Reason.{Submission, submission, commandAt, byMap}
+use Rattle.rules.specs.Reason.{submission, commandAt, byMap}
 use Rattle.rules.specs.Judging.{settingOf}
 use Rattle.rules.specs.Reasons.{GoesTo, increasing, non-increasing, long, NoneWraps}
+use Rattle.rules.proofs.Parts.{mark-within}
 use Rattle.rules.proofs.Methods.{wraps-plain}
 use Rattle.rules.proofs.Table.{passed}
 use Rattle.rules.proofs.Cases.{quiet}
-use Rattle.rules.proofs.Clean.{clean, unstarted}
+use Rattle.rules.proofs.Clean.{clean}
 use Rattle.rules.proofs.Reasons.{marked-plain}
-
--- behind the map's end nothing is marked
-mark-within : (x : Submission) (map : List ℕ) (p : ℕ) (s : Bool) → marked map p s ≡ true → p < length map
-mark-within x map p s m = go (ltb p (length map)) refl
-  where
-    go : (b : Bool) → ltb p (length map) ≡ b → p < length map
-    go true e = ltb-true _ _ e
-    go false e = absurd (unstarted x map p s (List·getD-eq-default map 0 {n = p} (ltb-false _ _ e)) m)
 
 -- where a run does not wrap, each parameter goes to its own method, of the first 2,048
 module _ (d : Reading) (rising : wraps d ≡ false) (c b m : ℕ) (is : number d ≡ 1) (told : values d ≡ c ∷ b ∷ m ∷ []) (k : ℕ) (l : k < c) where
@@ -55,6 +44,6 @@ none-wraps level sli bytes map list r j a p s mark =
     let x = submission (settingOf level sli) bytes list in
     let h = passed _ level sli bytes map list r j a in
     let here = marked-plain x map p s .1 mark in
-    let within = mark-within x map p s here in
+    let within = mark-within map p s here in
     let none = clean x map (h .0 .bytes-map) (h .1) .quiet p s (omega (arith, h .0 .bytes-map)) here in
     in-turn (commandAt x p) (quiet (byMap map) x p s .0 none .own .wraps)

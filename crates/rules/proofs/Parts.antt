@@ -2,7 +2,7 @@
 -- spans. Assumes nothing.
 use Prim.Native.Nat.{ℕ, zero, suc, _+_, _*_, _/_, _%_, _^_, _≤_, _<_}
 use mathlib.Core.Path.{_≡_, refl, sym, ap, _∙_}
-use mathlib.Core.Bool.{Bool, true, false, not}
+use mathlib.Core.Bool.{Bool, true, false, not, false≢true}
 use mathlib.Core.List.{List}
 use mathlib.Core.Logic.{⊎-elim, _↔_}
 use mathlib.Core.Option.{Option, none, some}
@@ -50,6 +50,12 @@ past-unmarked map p true l = rw (List·getD-eq-default map 0 {n = p} l)
 past-none : (map : List ℕ) (k : ℕ) → length map ≤ k → starts map k ≡ false
 unfolding starts
 past-none map k l = ap not (eq-eqb _ _ (List·getD-eq-default map 0 {n = k} l))
+
+-- so that what is marked is a place of the map
+pub mark-within : (map : List ℕ) (p : ℕ) (s : Bool) → marked map p s ≡ true → p < length map
+mark-within map p s m =
+    let past : length map ≤ p → ⊥ = λ l. false≢true (past-unmarked map p s l ∙ m) in
+    omega arith
 
 pub none-among : (map : List ℕ) (a c : ℕ) → length map ≤ a → false ≡ among map a c
 unfolding among
