@@ -10,10 +10,14 @@
 /* The word at a place, read as a command of an NV04-style channel. */
 upborliya_reading reading_at(const struct submission *submission, uint32_t place);
 
-/* Whether such a word can read so. */
-bool is_reading(upborliya_reading reading);
+/* Whether the library can have read it so. Any other reading would have to come from a wrong archive. */
+bool is_reading_at(const struct submission *submission, uint32_t place);
 
-/* Prints a reading that is one, without an end of line. */
-void print_reading(upborliya_reading reading);
+/* Prints what the word at a place reads as, where the library can have read it so, without an end of line. */
+void print_reading_at(const struct submission *submission, uint32_t place);
+
+/* Prints why the word at a place, which is reserved, is no command there, and what it would take, without an
+ * end of line. */
+void print_why_at(const struct submission *submission, uint32_t place);
 
 #endif

@@ -127,10 +127,10 @@ static bool is_list(const struct submission *given, const struct submission *rep
 static bool are_readings(const struct submission *given, unsigned count)
 {
     for (unsigned i = 0; i < count; i++) {
-        upborliya_reading reading = reading_at(given, upborliya_change_place(list[i]));
+        uint32_t place = upborliya_change_place(list[i]);
 
-        if (!is_reading(reading)) {
-            fail_unknown("the reading of a word", reading);
+        if (!is_reading_at(given, place)) {
+            fail_unknown("the reading of a word", reading_at(given, place));
             return false;
         }
     }
@@ -165,7 +165,7 @@ static void print_change(const struct submission *given, uint64_t change)
     printf(", now ");
     print_mark((uint8_t)upborliya_change_new(change));
     printf("\n    word: 0x%08" PRIx32 ", as a command: ", word_at(given, place));
-    print_reading(reading_at(given, place));
+    print_reading_at(given, place);
     printf("\n");
 }
 

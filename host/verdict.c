@@ -4,6 +4,7 @@
 #include <stdio.h>
 
 #include "program.h"
+#include "reading.h"
 
 /* ---- The header's numbers in words ---- */
 
@@ -137,19 +138,31 @@ bool is_refusal(unsigned refusal)
     return refusal < REFUSAL_COUNT && refusals[refusal].name != NULL;
 }
 
+/* Reason 3 has the why that the word at its place reads with. */
+static bool is_why(const struct submission *submission, upborliya_answer answer)
+{
+    upborliya_reading reading = reading_at(submission, upborliya_place(answer));
+
+    return is_reading_at(submission, upborliya_place(answer)) &&
+           upborliya_form(reading) == UPBORLIYA_FORM_RESERVED &&
+           upborliya_reading_why(reading) == upborliya_why(answer);
+}
+
 bool is_verdict(const struct submission *submission, upborliya_answer answer)
 {
     unsigned refusal = upborliya_refusal(answer);
     unsigned reason = upborliya_reason(answer);
 
-    if ((answer >> 16 & 0xff) != 0)
+    if (reason != UPBORLIYA_REASON_RESERVED && upborliya_why(answer) != UPBORLIYA_WHY_NONE)
         return false;
     if (refusal != UPBORLIYA_REFUSAL_NONE)
         return reason == UPBORLIYA_REASON_NONE && is_refusal(refusal);
-    if (reason != UPBORLIYA_REASON_NONE)
-        return reason < REASON_COUNT && reasons[reason] != NULL &&
-               upborliya_place(answer) < word_count(submission);
-    return true;
+    if (reason == UPBORLIYA_REASON_NONE)
+        return true;
+    if (reason >= REASON_COUNT || reasons[reason] == NULL ||
+        upborliya_place(answer) >= word_count(submission))
+        return false;
+    return reason != UPBORLIYA_REASON_RESERVED || is_why(submission, answer);
 }
 
 int fail_unknown(const char *name, uint64_t answer)
@@ -176,6 +189,11 @@ static int print_rejected(const struct submission *submission, upborliya_answer 
 
     printf("rejected: reason %u at place %" PRIu32 " (byte %" PRIu32 ")\n", reason, place, 4 * place);
     printf("  %s\n", reasons[reason]);
+    if (reason == UPBORLIYA_REASON_RESERVED) {
+        printf("  why: ");
+        print_why_at(submission, place);
+        printf("\n");
+    }
     printf("  word: 0x%08" PRIx32 ", map byte: %u\n", word_at(submission, place),
            submission->map.bytes[place]);
     return REJECTED;

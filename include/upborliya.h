@@ -17,7 +17,7 @@ extern "C" {
  *
  *   bits  7-0   reason: why the words are not passed on, one of UPBORLIYA_REASON_.., or 0
  *   bits 15-8   refusal: why there is no judgement, one of UPBORLIYA_REFUSAL_.., or 0
- *   bits 23-16  0, kept for later
+ *   bits 23-16  of the reason RESERVED why the word is no command, one of UPBORLIYA_WHY_..; else 0
  *   bits 39-24  how many methods the list permits, 0 on a refusal
  *   bits 63-40  the place of the reason, counted in words; 0 where there is none
  *
@@ -62,6 +62,15 @@ enum {
     UPBORLIYA_REFUSAL_ROOM = 11   /* a room has fewer entries than one a word (list) or two a word (work) */
 };
 
+/* Why a word is no command at a level, a mode and an SLI setting: the first of these that applies. */
+enum {
+    UPBORLIYA_WHY_NONE = 0,
+    UPBORLIYA_WHY_FORM = 1,  /* no command looks like that, on any card */
+    UPBORLIYA_WHY_LEVEL = 2, /* it is a command from a higher level on */
+    UPBORLIYA_WHY_MODE = 3,  /* it is a command in the other mode */
+    UPBORLIYA_WHY_SLI = 4    /* it is an SLI conditional, and SLI is off */
+};
+
 static inline unsigned upborliya_reason(upborliya_answer answer)
 {
     return (unsigned)(answer & 0xff);
@@ -70,6 +79,11 @@ static inline unsigned upborliya_reason(upborliya_answer answer)
 static inline unsigned upborliya_refusal(upborliya_answer answer)
 {
     return (unsigned)(answer >> 8 & 0xff);
+}
+
+static inline unsigned upborliya_why(upborliya_answer answer)
+{
+    return (unsigned)(answer >> 16 & 0xff);
 }
 
 static inline unsigned upborliya_count(upborliya_answer answer)
@@ -162,7 +176,7 @@ upborliya_answer upborliya_repair(uint32_t level, uint32_t sli, const uint8_t *w
  *
  *   bits  7-0   form: one of UPBORLIYA_FORM_..
  *   bits 15-8   refusal: why it is not read, one of UPBORLIYA_REFUSAL_.., or 0
- *   bits 23-16  0, kept for later
+ *   bits 23-16  of the form RESERVED why it is no command, one of UPBORLIYA_WHY_..; else 0
  *
  * and then by its form, of INCREASING, NON_INCREASING and LONG
  *
@@ -191,7 +205,7 @@ enum {
     UPBORLIYA_FORM_OLD_JUMP = 6,
     UPBORLIYA_FORM_JUMP = 7,
     UPBORLIYA_FORM_CALL = 8,
-    UPBORLIYA_FORM_RESERVED = 9, /* no command at this level, mode and SLI setting */
+    UPBORLIYA_FORM_RESERVED = 9, /* no command at this level, mode and SLI setting: the why says what is wrong */
     UPBORLIYA_FORM_REFUSED = 10  /* there is no such level, mode or SLI setting: the refusal says which */
 };
 
@@ -206,6 +220,11 @@ static inline unsigned upborliya_form(upborliya_reading reading)
 static inline unsigned upborliya_reading_refusal(upborliya_reading reading)
 {
     return (unsigned)(reading >> 8 & 0xff);
+}
+
+static inline unsigned upborliya_reading_why(upborliya_reading reading)
+{
+    return (unsigned)(reading >> 16 & 0xff);
 }
 
 /* These three of the forms INCREASING, NON_INCREASING and LONG. */

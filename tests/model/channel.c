@@ -47,7 +47,7 @@ static bool indices_fit(const struct channel *channel)
 }
 
 /* R32, R35: the widths that are the same in both modes. A long address is narrower than its type, and may lie
- * between words. */
+ * between words. What an error's why is, and whether a word can have it at this setting, is not asked. */
 static bool numbers_fit(const struct channel *channel)
 {
     for (unsigned i = 0; i < SUBCHANNELS; i++)
@@ -148,6 +148,13 @@ static struct answer stop_pusher(struct channel *channel, uint32_t error)
 {
     channel->pusher_error = error;
     return plain(KIND_ERROR);
+}
+
+/* S23, S33: the one error that has a why, which is stored with it. */
+static struct answer stop_reserved(struct channel *channel, uint32_t why)
+{
+    channel->pusher_why = why;
+    return stop_pusher(channel, PUSHER_RESERVED_CMD);
 }
 
 /* P20, P21: what an error of the puller comes to; whoever raises it has changed nothing else, but for P5. */
@@ -560,8 +567,9 @@ static struct answer take_command(struct channel *channel, uint32_t word)
     case READING_RETURN:
         return take_return(channel);
     default:
-        /* S23, S28: the advance is all that is left of it. */
-        return stop_pusher(channel, PUSHER_RESERVED_CMD);
+        /* S23, S28: the advance is all that is left of it. A channel that isn't refused has a setting that
+         * isn't either, so that it is a reserved word. */
+        return stop_reserved(channel, command.why);
     }
 }
 

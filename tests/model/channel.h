@@ -88,6 +88,8 @@ struct channel {
     bool dma_mget_valid;
     bool sli_active;
     uint32_t pusher_error;
+    /* S33: of RESERVED_CMD the why of its word; of any other error, or none, 0. */
+    uint32_t pusher_why;
 
     /* P10: the puller, in which a semaphore object at address 0 is none. */
     uint32_t engines[SUBCHANNELS];

@@ -1,5 +1,6 @@
 /* The RUN records: a channel is opened, and the host sets put, stores semaphore words and lets it step. */
 #include "channel_vectors.h"
+#include "pattern.h"
 
 enum { OP_STORE = 2, MOST_STEPS = 60 };
 
@@ -71,6 +72,7 @@ static struct answer run_step(struct run *run, struct lens lens)
     answer = add_step(run->vectors, &run->operations, header, &run->channel, &lent);
     count_one(run->vectors, STEP, answer.kind);
     count_read(run->vectors, RUN_READ, &before, &lent, answer);
+    count_why(run->vectors, RUN_WHY, &run->channel, answer);
     if (is_long_step(&before, &run->channel, answer))
         count_one(run->vectors, LONG_STEP, answer.kind);
     if (answer.refusal != REFUSAL_NONE)
@@ -364,6 +366,31 @@ static void put_any_run(struct vectors *vectors)
     put_run(vectors, &setup, &memory, 24 + draw_below(draw, MOST_STEPS - 23));
 }
 
+/* S23, S33: a short run that ends with a word that is reserved for a why. */
+static void put_reserved_run(struct vectors *vectors, struct setting setting, uint32_t why)
+{
+    struct draw *draw = &vectors->draw;
+    struct setup setup = {setting, 2, UINT32_MAX, draw_any_number(draw) >> 20};
+    struct memory memory;
+
+    compose(draw, &setup, END_RESERVED, 3, &memory);
+    memory.words[memory.word_count - 1] = draw_reserved(draw, setting, why);
+    put_run(vectors, &setup, &memory, 32);
+}
+
+/* W20, W21, W22, W23, W24: such runs at every setting, for each why that it has. */
+static void put_reserved_runs(struct vectors *vectors)
+{
+    for (uint32_t i = 0; i < 24 * WHY_SLI; i++) {
+        struct setting setting = {i % 24 / 4, i / 2 % 2, i % 2 == 1};
+        uint32_t why = WHY_FORM + i / 24;
+
+        for (unsigned j = 0; j < 4; j++)
+            if (model_setting_refusal(setting) == REFUSAL_NONE && why_fits(setting, why))
+                put_reserved_run(vectors, setting, why);
+    }
+}
+
 /* R1, R2, R3, R4, R5, R6, R10: makes an opening be refused, in one of the seven ways. */
 static void spoil(struct setup *setup, struct memory *memory, unsigned way)
 {
@@ -409,8 +436,9 @@ static void put_blank_run(struct vectors *vectors, unsigned way)
 
 void put_runs(struct vectors *vectors)
 {
-    for (unsigned i = 0; i < 1960; i++)
+    for (unsigned i = 0; i < 2060; i++)
         put_any_run(vectors);
+    put_reserved_runs(vectors);
     for (unsigned i = 0; i < 42; i++)
         put_blank_run(vectors, i % 7);
 }

@@ -49,6 +49,7 @@ static uint32_t put_single(struct vectors *vectors, const struct single *single)
     answer = add_step(vectors, &buffer, header, &channel, &lent);
     put_record(vectors, SINGLE, buffer.words, buffer.count, answer.kind);
     count_read(vectors, SINGLE_READ, &single->channel, &lent, answer);
+    count_why(vectors, SINGLE_WHY, &channel, answer);
     if (answer.refusal != REFUSAL_NONE)
         count_one(vectors, SINGLE_REFUSED, answer.refusal);
     /* Behind the words that records give, released words would stay. */
@@ -561,16 +562,17 @@ static void put_far_addresses(struct vectors *vectors)
         0x3fffffff0, 0x3fffffffc, 0x400000004, 0xfffffffff0, 0xfffffffffc, 0xffffffffff,
     };
 
-    for (uint32_t i = 0; i < 5 * sizeof addresses / sizeof addresses[0]; i++) {
+    for (uint32_t i = 0; i < 7 * sizeof addresses / sizeof addresses[0]; i++) {
         static const uint32_t operations[] = {TRIGGER_RELEASE, TRIGGER_EQUAL, TRIGGER_GREATER};
         struct draw *draw = &vectors->draw;
-        uint32_t which = i % 5;
-        struct single single = which < 3 ? draw_long(draw, 0x1c, operations[which])
-                                         : draw_retry(draw, draw_setting(draw), which - 2);
+        uint32_t which = i % 7;
+        uint32_t mode = which % 2 == 1 ? ACQUIRE_EQUAL : ACQUIRE_GREATER;
+        struct single single =
+            which < 3 ? draw_long(draw, 0x1c, operations[which]) : draw_retry(draw, draw_setting(draw), mode);
 
         for (uint32_t j = 0; j < single.memory.semaphore_count; j++)
             single.memory.semaphores[j] = 7;
-        single.channel.semaphore_address = addresses[i / 5];
+        single.channel.semaphore_address = addresses[i / 7];
         single.channel.semaphore_sequence = 7;
         single.channel.acquire_value = 7;
         put_single(vectors, &single);
@@ -729,16 +731,38 @@ static void put_commands(struct vectors *vectors)
     }
 }
 
+/* W20, W21, W22, W23, W24, S23, S28, S33: for each why that a setting has, words that are reserved for it.
+ * LEVEL and SLI, which fewer settings have, are tried more often. */
+static void put_reserved(struct vectors *vectors)
+{
+    static const unsigned times[] = {[WHY_FORM] = 1, [WHY_LEVEL] = 12, [WHY_MODE] = 2, [WHY_SLI] = 8};
+
+    for (uint32_t i = 0; i < STATES * WHY_SLI; i++) {
+        struct draw *draw = &vectors->draw;
+        struct state state = state_at(i % STATES);
+        uint32_t why = WHY_FORM + i / STATES;
+
+        for (unsigned j = 0; j < times[why] && why_fits(state.setting, why); j++) {
+            uint32_t word = draw_reserved(draw, state.setting, why);
+            struct single single = draw_command(draw, state.setting, word);
+
+            single.channel.subroutine = j % 2 == 1;
+            single.channel.sli_active = state.is_active;
+            put_single(vectors, &single);
+        }
+    }
+}
+
 /* S21, S22, S27, S28: call and return, inside a subroutine and outside of one, wherever there are any. */
 static void put_calls(struct vectors *vectors)
 {
-    for (uint32_t i = 0; i < STATES * 2 * 2; i++) {
+    for (uint32_t i = 0; i < STATES * 2 * 2 * 2; i++) {
         struct draw *draw = &vectors->draw;
         struct setting setting = state_at(i % STATES).setting;
         uint32_t word = i / STATES % 2 == 0 ? 0x00020000 : 4 * draw_below(draw, 9) | 2;
         struct single single = draw_command(draw, setting, word);
 
-        single.channel.subroutine = i / STATES / 2 == 1;
+        single.channel.subroutine = i / STATES / 2 % 2 == 1;
         if (setting.level >= 2 && setting.mode == MODE_NV04)
             put_single(vectors, &single);
     }
@@ -864,8 +888,9 @@ static void put_worked_limits(struct vectors *vectors)
 static void put_far_words(struct vectors *vectors)
 {
     static const uint64_t addresses[] = {
-        0x400004,     0x40000004,  0x80000000,  0xfffffffc,  0x100000000,  0x100000004,  0x8000000008,
-        0xff00000004, 0x3fffffffc, 0x400000000, 0x400000004, 0x7400000008, 0xfc00000004, 0xfffffffffc,
+        0x400004,    0x40000004,   0x80000000,   0xfffffffc,   0x100000000,
+        0x100000004, 0x5500000008, 0x8000000008, 0xff00000004, 0x3fffffffc,
+        0x400000000, 0x400000004,  0x7400000008, 0xfc00000004, 0xfffffffffc,
     };
     static const uint32_t limits[] = {0, 4, 0x80000000, UINT32_MAX};
 
@@ -978,11 +1003,29 @@ static void put_stopped(struct vectors *vectors)
 
         if (i % 49 == 0)
             continue;
-        single.channel.pusher_error = i % 7;
+        set_pusher_error(&vectors->draw, &single.channel, i % 7);
         single.channel.puller_error = i / 7 % 7;
         single.channel.acquire_active = i / 49 == 1;
         if (i / 49 == 2)
             single.channel.put = single.channel.get;
+        put_single(vectors, &single);
+    }
+}
+
+/* R35, S4, S33: stopped at a reserved word with each why at each setting, be it one that no word has there,
+ * though there is such a word; beside an error of the puller as often as not. */
+static void put_stopped_whys(struct vectors *vectors)
+{
+    for (uint32_t i = 0; i < STATES * WHY_SLI; i++) {
+        struct draw *draw = &vectors->draw;
+        struct setting setting = state_at(i % STATES).setting;
+        uint32_t word = draw_reserved(draw, setting, draw_why(draw, setting));
+        struct single single = draw_command(draw, setting, word);
+
+        single.channel.pusher_error = PUSHER_RESERVED_CMD;
+        single.channel.pusher_why = WHY_FORM + i / STATES;
+        if (draw_once_in(draw, 2))
+            single.channel.puller_error = 1 + draw_below(draw, 6);
         put_single(vectors, &single);
     }
 }
@@ -1038,7 +1081,7 @@ static struct single draw_ill_formed(struct draw *draw, unsigned breach, unsigne
     single.lens.words = 1;
     give_semaphores(draw, &single);
     if (draw_once_in(draw, 4))
-        single.channel.pusher_error = 1 + draw_below(draw, 6);
+        set_pusher_error(draw, &single.channel, 1 + draw_below(draw, 6));
     if (draw_once_in(draw, 4))
         single.channel.acquire_active = true;
     return single;
@@ -1199,6 +1242,7 @@ void put_singles(struct vectors *vectors)
     put_retry_modes(vectors);
     put_unlooked(vectors);
     put_commands(vectors);
+    put_reserved(vectors);
     put_calls(vectors);
     put_any_commands(vectors);
     put_conditionals(vectors);
@@ -1212,6 +1256,7 @@ void put_singles(struct vectors *vectors)
     put_far_entries(vectors);
     put_retries(vectors);
     put_stopped(vectors);
+    put_stopped_whys(vectors);
     put_idle(vectors);
     put_any(vectors);
     put_ill_formed(vectors);

@@ -24,7 +24,7 @@ uint64_t draw_clock(struct draw *draw)
 /* ---- Well-formed channels ---- */
 
 /* R32: the widths of the words of a row, but for those that depend on the set-up: they stay 0 here, as do the
- * errors, the active acquire and its mode. */
+ * errors with their why, the active acquire and its mode. */
 static const unsigned char widths[CHANNEL_WORDS] = {
     [AT_DMA_LIMIT] = 32,     [AT_GET] = 32,         [AT_PUT] = 32,           [AT_COUNT] = 24,
     [AT_METHOD] = 11,        [AT_SUBCHANNEL] = 3,   [AT_INCREASING] = 1,     [AT_COUNT_AWAITED] = 1,
@@ -69,6 +69,13 @@ struct channel draw_channel(struct draw *draw, struct setting setting)
     if (setting.mode == MODE_IB)
         draw_ib(draw, &channel);
     return channel;
+}
+
+void set_pusher_error(struct draw *draw, struct channel *channel, uint32_t error)
+{
+    channel->pusher_error = error;
+    if (error == PUSHER_RESERVED_CMD)
+        channel->pusher_why = WHY_FORM + draw_below(draw, WHY_SLI);
 }
 
 /* ---- Breaches ---- */
@@ -202,11 +209,24 @@ static struct channel draw_put_channel(struct draw *draw, struct setting setting
     struct channel channel = draw_channel(draw, setting);
 
     if (draw_once_in(draw, 3)) {
-        channel.pusher_error = draw_below(draw, 7);
+        set_pusher_error(draw, &channel, draw_below(draw, 7));
         channel.puller_error = draw_below(draw, 7);
     }
     channel.acquire_active = draw_once_in(draw, 3);
     return channel;
+}
+
+/* R35, S2, S33: stopped with each why at a setting, be it one that no word has there: put is set all the
+ * same. */
+static void put_puts_stopped(struct vectors *vectors, struct setting setting)
+{
+    for (uint32_t why = WHY_FORM; why <= WHY_SLI; why++) {
+        struct channel channel = draw_channel(&vectors->draw, setting);
+
+        channel.pusher_error = PUSHER_RESERVED_CMD;
+        channel.pusher_why = why;
+        put_put(vectors, channel, 0);
+    }
 }
 
 /* R7, S2: puts between words, and at both ends of 32 bits. */
@@ -273,6 +293,7 @@ void put_puts(struct vectors *vectors)
             put_puts_ib(vectors, setting);
         else
             put_puts_nv04(vectors, setting);
+        put_puts_stopped(vectors, setting);
     }
     put_puts_ill_formed(vectors);
     for (unsigned i = 0; i < 380; i++) {

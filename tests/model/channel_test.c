@@ -1,6 +1,6 @@
 /* The self-test of the model of the channel: the rules as cases worked out by hand, the printed example,
- * second readings of opening, of where a word is read, of long semaphores and of STATE, and what must hold of
- * any run. */
+ * second readings of opening, of where a word is read, of why one is reserved, of long semaphores and of
+ * STATE, and what must hold of any run. */
 #include <inttypes.h>
 #include <stdio.h>
 #include <stdlib.h>
@@ -162,6 +162,13 @@ static struct channel pusher_stopped(struct channel channel, uint32_t error)
 {
     channel.pusher_error = error;
     return channel;
+}
+
+/* S33: stopped at a reserved word, for a why. */
+static struct channel reserved_stopped(struct channel channel, uint32_t why)
+{
+    channel.pusher_why = why;
+    return pusher_stopped(channel, PUSHER_RESERVED_CMD);
 }
 
 static struct channel puller_stopped(struct channel channel, uint32_t error)
@@ -360,6 +367,7 @@ static void test_step_order(uint32_t level)
 
     for (uint32_t error = 1; error <= 6; error++) {
         after = pusher_stopped(channel, error);
+        after.pusher_why = error == PUSHER_RESERVED_CMD ? WHY_MODE : WHY_NONE;
         steps("stopped comes first", after, plain(KIND_STOPPED), after);
         after = puller_stopped(channel, error);
         steps("stopped comes first", after, plain(KIND_STOPPED), after);
@@ -556,7 +564,7 @@ static void test_roles(uint32_t mode)
 
     channel.count = 0;
     steps("a command, since none is to come", channel, plain(KIND_ERROR),
-          pusher_stopped(advanced(channel), PUSHER_RESERVED_CMD));
+          reserved_stopped(advanced(channel), WHY_FORM));
 }
 
 /* S16, S17: runs, and commands without a parameter. */
@@ -589,7 +597,7 @@ static void test_method_commands(uint32_t mode)
     steps("increasing 2047, subchannel 1, 0x0180", channel, plain(KIND_COMMAND), after);
 }
 
-/* S18, S23: a long form, which NV04-style doesn't have. */
+/* S18, S23, S33: a long form, which NV04-style doesn't have. */
 static void test_long(void)
 {
     struct channel channel = reading(4, MODE_IB, false);
@@ -607,10 +615,10 @@ static void test_long(void)
     channel = reading(4, MODE_NV04, false);
     scene.words[0] = 0x00034100;
     steps("a long form in NV04-style", channel, plain(KIND_ERROR),
-          pusher_stopped(advanced(channel), PUSHER_RESERVED_CMD));
+          reserved_stopped(advanced(channel), WHY_MODE));
 }
 
-/* S19, S23: an SLI conditional, with SLI on and off. */
+/* S19, S23, S33: an SLI conditional, with SLI on and off. */
 static void test_conditional(uint32_t level, uint32_t mode)
 {
     static const struct {
@@ -633,12 +641,12 @@ static void test_conditional(uint32_t level, uint32_t mode)
     channel = reading(level, mode, false);
     scene.words[0] = 0x00010050;
     steps("an SLI conditional with SLI off", channel, plain(KIND_ERROR),
-          pusher_stopped(advanced(channel), PUSHER_RESERVED_CMD));
+          reserved_stopped(advanced(channel), WHY_SLI));
 }
 
 /* ---- Jump, call, return ---- */
 
-/* W9, W10, S20, S23: jumps, also below the level that has them. */
+/* W9, W10, S20, S23, S33: jumps, also below the level that has them. */
 static void test_jumps(uint32_t level)
 {
     struct channel channel = reading(level, MODE_NV04, false);
@@ -656,14 +664,14 @@ static void test_jumps(uint32_t level)
         steps("a jump, whatever its upper half", channel, plain(KIND_COMMAND), after);
     else
         steps("a jump below level 2", channel, plain(KIND_ERROR),
-              pusher_stopped(advanced(channel), PUSHER_RESERVED_CMD));
+              reserved_stopped(advanced(channel), WHY_LEVEL));
     scene.words[0] = 0xfffffffd;
     after.get = 0xfffffffc;
     if (level >= 2)
         steps("a jump has 32 bits", channel, plain(KIND_COMMAND), after);
 }
 
-/* S21, S23, S28: a call, also inside a subroutine and below the level that has it. */
+/* S21, S23, S28, S33: a call, also inside a subroutine and below the level that has it. */
 static void test_call(uint32_t level)
 {
     struct channel channel = reading(level, MODE_NV04, false);
@@ -672,8 +680,7 @@ static void test_call(uint32_t level)
     scene.words[0] = 0x00002002;
     channel.return_address = after.return_address = 0x44;
     if (level < 2) {
-        steps("a call below level 2", channel, plain(KIND_ERROR),
-              pusher_stopped(after, PUSHER_RESERVED_CMD));
+        steps("a call below level 2", channel, plain(KIND_ERROR), reserved_stopped(after, WHY_LEVEL));
         return;
     }
     after.return_address = 4;
@@ -685,7 +692,7 @@ static void test_call(uint32_t level)
           pusher_stopped(advanced(channel), PUSHER_CALL));
 }
 
-/* S22, S23, S28: a return, also outside of a subroutine and below the level that has it. */
+/* S22, S23, S28, S33: a return, also outside of a subroutine and below the level that has it. */
 static void test_return(uint32_t level)
 {
     struct channel channel = reading(level, MODE_NV04, false);
@@ -694,8 +701,7 @@ static void test_return(uint32_t level)
     scene.words[0] = 0x00020000;
     channel.return_address = after.return_address = 0x44;
     if (level < 2) {
-        steps("a return below level 2", channel, plain(KIND_ERROR),
-              pusher_stopped(after, PUSHER_RESERVED_CMD));
+        steps("a return below level 2", channel, plain(KIND_ERROR), reserved_stopped(after, WHY_LEVEL));
         return;
     }
     steps("a return outside of a subroutine", channel, plain(KIND_ERROR),
@@ -705,22 +711,172 @@ static void test_return(uint32_t level)
     steps("a return", channel, plain(KIND_COMMAND), after);
 }
 
-/* S12, S23, S28: the forms that IB mode doesn't have, and words of no form. The advance is made all the same,
- * and dma_mget with it unless NOT_MAIN is set. */
+/* S12, S23, S28, S33: the forms that IB mode doesn't have, and words of no form. The advance is made all the
+ * same, and dma_mget with it unless NOT_MAIN is set. */
 static void test_flow_in_ib(void)
 {
-    static const uint32_t words[] = {0x20000000, 0x00000001, 0x00000002, 0x00020000, 0x00000003, 0x80000000};
+    static const struct {
+        uint32_t word;
+        uint32_t why;
+    } rows[] = {{0x20000000, WHY_MODE}, {0x00000001, WHY_MODE}, {0x00000002, WHY_MODE},
+                {0x00020000, WHY_MODE}, {0x00000003, WHY_FORM}, {0x80000000, WHY_FORM}};
 
-    for (unsigned i = 0; i < 2 * sizeof words / sizeof words[0]; i++) {
+    for (unsigned i = 0; i < 2 * sizeof rows / sizeof rows[0]; i++) {
         struct channel channel = reading(5, MODE_IB, true);
 
         channel.subroutine = i % 2 == 1;
         channel.not_main = i % 2 == 1;
         channel.dma_mget = 0x77;
-        scene.words[0] = words[i / 2];
+        scene.words[0] = rows[i / 2].word;
         steps("RESERVED_CMD in IB mode", channel, plain(KIND_ERROR),
-              pusher_stopped(advanced(channel), PUSHER_RESERVED_CMD));
+              reserved_stopped(advanced(channel), rows[i / 2].why));
     }
+}
+
+/* ---- Why a word is reserved ---- */
+
+/* S23, S33: a word at a setting, and the why with which it stops a channel. A subroutine is active, so that a
+ * return is an error of no other kind. */
+static const struct {
+    const char *sentence;
+    struct setting setting;
+    uint32_t word;
+    uint32_t why;
+} reserved_rows[] = {
+    {"no form at level 0", {0, MODE_NV04, false}, 0x00000003, WHY_FORM},
+    {"no form at level 5", {5, MODE_NV04, true}, 0x00020004, WHY_FORM},
+    {"no form in IB mode", {4, MODE_IB, false}, 0x00020004, WHY_FORM},
+    {"nearly an SLI conditional, with SLI off", {3, MODE_NV04, false}, 0x00010008, WHY_FORM},
+    {"nearly a long form in NV04-style", {3, MODE_NV04, false}, 0x80030000, WHY_FORM},
+    {"non-increasing at level 0", {0, MODE_NV04, false}, 0x400cfffc, WHY_LEVEL},
+    {"a return at level 1", {1, MODE_NV04, false}, 0x00020000, WHY_LEVEL},
+    {"a jump at level 1", {1, MODE_NV04, false}, 0x00010001, WHY_LEVEL},
+    {"a call at level 0", {0, MODE_NV04, false}, 0x00002002, WHY_LEVEL},
+    {"an SLI conditional at level 0", {0, MODE_NV04, false}, 0x00010050, WHY_LEVEL},
+    {"an SLI conditional at level 1", {1, MODE_NV04, false}, 0x0001fff0, WHY_LEVEL},
+    {"an SLI conditional at level 2", {2, MODE_NV04, false}, 0x00010000, WHY_LEVEL},
+    {"an SLI conditional at level 3", {3, MODE_NV04, false}, 0x00010050, WHY_SLI},
+    {"an SLI conditional at level 5", {5, MODE_NV04, false}, 0x00010050, WHY_SLI},
+    {"an SLI conditional in IB mode", {4, MODE_IB, false}, 0x00010050, WHY_SLI},
+    {"a long form at level 0", {0, MODE_NV04, false}, 0x00034100, WHY_MODE},
+    {"a long form at level 1", {1, MODE_NV04, false}, 0x00034100, WHY_MODE},
+    {"a long form at level 2", {2, MODE_NV04, false}, 0x00034100, WHY_MODE},
+    {"a long form at level 3", {3, MODE_NV04, true}, 0x00034100, WHY_MODE},
+    {"a long form at level 4", {4, MODE_NV04, false}, 0x00034100, WHY_MODE},
+    {"a long form at level 5", {5, MODE_NV04, true}, 0x0003fffc, WHY_MODE},
+    {"an old jump in IB mode", {4, MODE_IB, true}, 0x3ffffffc, WHY_MODE},
+    {"a return in IB mode", {5, MODE_IB, false}, 0x00020000, WHY_MODE},
+    {"a call in IB mode", {5, MODE_IB, true}, 0x00002002, WHY_MODE},
+};
+
+/* S2, S4, S33: a channel that is stopped with a why stays so, and takes another put as any does. */
+static void keeps_why(struct channel channel)
+{
+    bool is_ib = channel.setup.setting.mode == MODE_IB;
+    struct channel after = channel;
+
+    steps("it stays stopped for that why", channel, plain(KIND_STOPPED), channel);
+    if (is_ib)
+        after.ib_put = 3;
+    else
+        after.put = 8;
+    sets_put("another put leaves the why", channel, is_ib ? 3 : 8, REFUSAL_NONE, after);
+    steps("it is stopped then too", after, plain(KIND_STOPPED), after);
+}
+
+/* S23, S28, S33: the error is 4 with any why, and what stopped the channel stays. */
+static void test_reserved_rows(void)
+{
+    for (size_t i = 0; i < sizeof reserved_rows / sizeof reserved_rows[0]; i++) {
+        struct setting setting = reserved_rows[i].setting;
+        struct channel channel = reading(setting.level, setting.mode, setting.sli);
+        struct channel after;
+
+        channel.subroutine = true;
+        scene.words[0] = reserved_rows[i].word;
+        after = reserved_stopped(advanced(channel), reserved_rows[i].why);
+        check(after.pusher_error == 4, "one number for all whys", setting.level, setting.mode);
+        steps(reserved_rows[i].sentence, channel, plain(KIND_ERROR), after);
+        keeps_why(after);
+    }
+}
+
+/* R13, R35, S33: any why of RESERVED_CMD at any setting, also one that no word has there, is no STATE; nor
+ * does it keep STATE back where another number is. */
+static void test_stored_whys(uint32_t level, uint32_t mode, bool sli)
+{
+    for (uint32_t why = WHY_FORM; why <= WHY_SLI; why++) {
+        struct channel channel = reserved_stopped(reading(level, mode, sli), why);
+
+        keeps_why(channel);
+        keeps_why(puller_stopped(channel, PULLER_NO_HASH));
+        channel.subchannel = 8;
+        steps("STATE for another reason", channel, refused(REFUSAL_STATE), channel);
+    }
+}
+
+/* W1 to W8, W11: the forms by their fixed bits, with the level that each begins at, its modes, bit 0 for
+ * NV04-style and bit 1 for IB, and whether it asks for SLI. */
+static const struct {
+    uint32_t mask;
+    uint32_t bits;
+    uint32_t level;
+    uint32_t modes;
+    bool needs_sli;
+} forms[] = {
+    {0xe0030003, 0x00000000, 0, 3, false}, {0xe0030003, 0x40000000, 1, 3, false},
+    {0xffff000f, 0x00010000, 3, 3, true},  {0xffffffff, 0x00020000, 2, 1, false},
+    {0xffff0003, 0x00030000, 0, 2, false}, {0xe0000003, 0x20000000, 0, 1, false},
+    {0x00000003, 0x00000001, 2, 1, false}, {0x00000003, 0x00000002, 2, 1, false},
+};
+
+/* W20, W21, W22, W23, W24: why a word is reserved at a row's setting, by these; 0 where it isn't. */
+static uint32_t why_second(const struct record *row, uint32_t word)
+{
+    for (size_t i = 0; i < sizeof forms / sizeof forms[0]; i++) {
+        if ((word & forms[i].mask) != forms[i].bits)
+            continue;
+        if (row->word[AT_LEVEL] < forms[i].level)
+            return WHY_LEVEL;
+        if ((forms[i].modes >> row->word[AT_MODE] & 1) == 0)
+            return WHY_MODE;
+        return forms[i].needs_sli && row->word[AT_SLI] == 0 ? WHY_SLI : WHY_NONE;
+    }
+    return WHY_FORM;
+}
+
+/* A word of one of the forms, half of the time with one bit turned over, or any word. */
+static uint32_t draw_form_word(struct draw *draw)
+{
+    uint32_t form = draw_below(draw, sizeof forms / sizeof forms[0]);
+    uint32_t word = (draw_number(draw) & ~forms[form].mask) | forms[form].bits;
+    uint32_t bit = UINT32_C(1) << draw_below(draw, 32);
+
+    if (draw_once_in(draw, 4))
+        return draw_word(draw);
+    return draw_once_in(draw, 2) ? word ^ bit : word;
+}
+
+/* S23, S28, S33: a command at any setting, by the second reading: reserved words stop with their why, and no
+ * other word leaves one. */
+static void test_second_reserved(struct draw *draw)
+{
+    struct setting setting = draw_setting(draw);
+    struct channel channel = reading(setting.level, setting.mode, setting.sli);
+    struct record row = record_of(&channel);
+    uint32_t why;
+
+    scene.words[0] = draw_form_word(draw);
+    channel.not_main = draw_once_in(draw, 2);
+    channel.subroutine = draw_once_in(draw, 2);
+    why = why_second(&row, scene.words[0]);
+    if (why != WHY_NONE) {
+        steps("a reserved word", channel, plain(KIND_ERROR), reserved_stopped(advanced(channel), why));
+        return;
+    }
+    model_step(&channel, &scene.lent);
+    check(channel.pusher_error != PUSHER_RESERVED_CMD && channel.pusher_why == WHY_NONE,
+          "a word that is a command", setting.level, setting.mode);
 }
 
 /* ---- Methods ---- */
@@ -1894,6 +2050,10 @@ static struct record draw_record(struct draw *draw)
     }
     /* R32: there is no fourth mode. */
     record.word[AT_ACQUIRE_MODE] %= ACQUIRE_MODES;
+    /* R32, S26, S33: nor a seventh error; RESERVED_CMD has one of four whys, and any other none. */
+    record.word[AT_PUSHER_ERROR] %= PUSHER_PROTECTION + 1;
+    record.word[AT_PUSHER_WHY] =
+        record.word[AT_PUSHER_ERROR] == PUSHER_RESERVED_CMD ? WHY_FORM + record.word[AT_PUSHER_WHY] % 4 : 0;
     return record;
 }
 
@@ -2016,7 +2176,7 @@ static bool same_setup(const struct channel *before, const struct channel *after
            first.word[AT_SLI_MASK] == second.word[AT_SLI_MASK];
 }
 
-/* S3, S4, S8, S27, S31, P20: what every step keeps, whatever it does. */
+/* S3, S4, S8, S27, S31, S33, P20: what every step keeps, whatever it does. */
 static void check_kept(const struct channel *before, const struct channel *after, struct answer answer)
 {
     struct setting setting = before->setup.setting;
@@ -2030,6 +2190,8 @@ static void check_kept(const struct channel *before, const struct channel *after
           setting.level, setting.mode);
     check((answer.kind == KIND_ERROR) == (!is_stopped(before) && is_stopped(after)), "an error stops",
           setting.level, setting.mode);
+    check((after->pusher_why != WHY_NONE) == (after->pusher_error == PUSHER_RESERVED_CMD),
+          "a why with RESERVED_CMD alone", setting.level, setting.mode);
     check(same_setup(before, after), "the set-up stays", setting.level, setting.mode);
     check(before->ib_put == after->ib_put && (ib || before->put == after->put), "put stays", setting.level,
           setting.mode);
@@ -2201,6 +2363,7 @@ static void test_unlooked(struct draw *draw)
 static void test_nv04(uint32_t level)
 {
     test_protection(level, MODE_NV04);
+    test_stored_whys(level, MODE_NV04, false);
     test_address_width(level, MODE_NV04);
     test_jumps(level);
     test_call(level);
@@ -2242,6 +2405,8 @@ static void test_ib(uint32_t level)
 {
     test_step_order(level);
     test_protection(level, MODE_IB);
+    test_stored_whys(level, MODE_IB, false);
+    test_stored_whys(level, MODE_IB, true);
     test_address_width(level, MODE_IB);
     test_conditional(level, MODE_IB);
     test_discard(level, MODE_IB);
@@ -2259,6 +2424,7 @@ static void test_levels(void)
         test_nv04(level);
         test_puller(level);
         if (level >= 3) {
+            test_stored_whys(level, MODE_NV04, true);
             test_conditional(level, MODE_NV04);
             test_discard(level, MODE_NV04);
         }
@@ -2280,6 +2446,7 @@ int main(void)
     test_levels();
     test_long();
     test_flow_in_ib();
+    test_reserved_rows();
     test_increasing();
     test_wrap();
     test_entries();
@@ -2293,6 +2460,7 @@ int main(void)
     for (unsigned i = 0; i < 100000; i++)
         test_state(&draw);
     for (unsigned i = 0; i < 100000; i++) {
+        test_second_reserved(&draw);
         test_second_read(&draw);
         test_second_method(&draw);
         test_second_retry(&draw);

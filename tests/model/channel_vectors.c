@@ -22,6 +22,7 @@
  * of the memory place and value of each word that is another than before, places rising.
  * With --counts it prints how many there are of each kind, and how many per answer, instead. */
 #include "channel_vectors.h"
+#include "pattern.h"
 
 /* ---- Records under way ---- */
 
@@ -44,6 +45,16 @@ void add_counted(struct buffer *buffer, const uint32_t *words, uint32_t count)
     add_words(buffer, words, count);
 }
 
+/* R35, S33: counts the why of a channel that is given, and once more where no word has it at its setting. */
+static void count_stored(struct vectors *vectors, const struct channel *channel)
+{
+    if (channel->pusher_why == WHY_NONE)
+        return;
+    count_one(vectors, STORED_WHY, channel->pusher_why);
+    if (!why_fits(channel->setup.setting, channel->pusher_why))
+        count_one(vectors, MISFIT_WHY, channel->pusher_why);
+}
+
 void add_channel(struct vectors *vectors, struct buffer *buffer, const struct channel *channel)
 {
     struct record record = record_of(channel);
@@ -51,6 +62,7 @@ void add_channel(struct vectors *vectors, struct buffer *buffer, const struct ch
     for (unsigned i = 0; i < CHANNEL_WORDS; i++)
         if (record.word[i] != 0)
             count_one(vectors, WORD, i);
+    count_stored(vectors, channel);
     add_words(buffer, record.word, CHANNEL_WORDS);
 }
 
@@ -204,6 +216,15 @@ static void count_error(struct vectors *vectors, const struct channel *channel, 
         count_one(vectors, RETRY_FAULT, channel->puller_error);
 }
 
+/* S33: a step that stops at a reserved word has stored its why. */
+void count_why(struct vectors *vectors, uint32_t kind, const struct channel *channel, struct answer answer)
+{
+    uint32_t mode = channel->setup.setting.mode;
+
+    if (answer.kind == KIND_ERROR && channel->pusher_error == PUSHER_RESERVED_CMD)
+        count_one(vectors, kind, channel->pusher_why + WHY_SLI * mode);
+}
+
 /* ---- Steps and puts ---- */
 
 /* S13, S29, S30: the event of a step, with its fields, and every word of channel or memory that changed. */
@@ -274,13 +295,17 @@ int main(int count, char **arguments)
      * runs both together as LONG_STEP, all by the event's kind; LONG_FAULT by the puller's error of 0x10 to
      * 0x1c; WRITTEN by how many semaphore words a step made others. SINGLE_READ and RUN_READ count the reads
      * of a word, by 1 where it is above the limit, plus 2 where it is beyond the lent words, plus 4 in IB
-     * mode; FAR_READ those that only a cut address would make good, by 1 where a cut place would too. */
+     * mode; FAR_READ those that only a cut address would make good, by 1 where a cut place would too.
+     * SINGLE_WHY and RUN_WHY count the reserved words that stop a channel, by their why, plus 4 in IB mode;
+     * STORED_WHY the whys of channels that are written whole, MISFIT_WHY those of them that no word has at
+     * the channel's setting. */
     static const char *const names[] = {
         "OPEN",           "RUN",        "SINGLE",       "PUT",           "STEP",        "REFUSED",
         "SINGLE_REFUSED", "ERROR",      "CAUSE",        "RETRY_FAULT",   "STATE",       "RUN_PUT",
         "WORD",           "LONG_EQUAL", "LONG_GREATER", "LONG_RELEASE",  "LONG_OTHER",  "LONG_FAULT",
         "LONG_STEP",      "RETRY_OLD",  "RETRY_EQUAL",  "RETRY_GREATER", "RETRY_BELOW", "WRITTEN",
-        "SINGLE_READ",    "RUN_READ",   "FAR_READ"};
+        "SINGLE_READ",    "RUN_READ",   "FAR_READ",     "SINGLE_WHY",    "RUN_WHY",     "STORED_WHY",
+        "MISFIT_WHY"};
     static struct vectors vectors = {.draw = {0x5eed}};
 
     if (count == 2 && strcmp(arguments[1], "--layout") == 0) {

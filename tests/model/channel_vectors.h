@@ -36,7 +36,11 @@ enum {
     WRITTEN = 24,
     SINGLE_READ = 25,
     RUN_READ = 26,
-    FAR_READ = 27
+    FAR_READ = 27,
+    SINGLE_WHY = 28,
+    RUN_WHY = 29,
+    STORED_WHY = 30,
+    MISFIT_WHY = 31
 };
 
 /* The pools that memory is lent from: how many words they have, and how many of them a record can give. */
@@ -98,6 +102,9 @@ bool is_long_step(const struct channel *before, const struct channel *after, str
 void count_read(struct vectors *vectors, uint32_t kind, const struct channel *before,
                 const struct lent *lent, struct answer answer);
 
+/* Counts the why of a step that stopped at a reserved word under a kind, by 4 more in IB mode. */
+void count_why(struct vectors *vectors, uint32_t kind, const struct channel *channel, struct answer answer);
+
 /* Sets put and adds what comes of it, in the same way. */
 uint32_t add_put(struct buffer *buffer, size_t header, struct channel *channel, uint32_t put);
 
@@ -111,6 +118,10 @@ uint64_t draw_clock(struct draw *draw);
 
 /* A well-formed channel that isn't stopped and waits for no semaphore; all its numbers are drawn. */
 struct channel draw_channel(struct draw *draw, struct setting setting);
+
+/* S26, S33: gives a channel an error of the pusher, or none; RESERVED_CMD has any of the whys, which need not
+ * be one that a word has at the channel's setting. */
+void set_pusher_error(struct draw *draw, struct channel *channel, uint32_t error);
 
 /* The ways to be ill-formed, each by one number alone. */
 unsigned breach_count(void);

@@ -1,5 +1,6 @@
 /* The words of a run: commands that mostly make sense, so that a run goes on, then an ending. */
 #include "channel_vectors.h"
+#include "pattern.h"
 
 /* The words under way, with what a run will know when it gets there, as far as it goes straight on. */
 struct text {
@@ -440,12 +441,12 @@ static void end_return(struct text *text)
     emit(text, 0x00020000);
 }
 
-/* S23: a word of no form. */
+/* S23, S33: a word that is reserved, for any why that the setting has. */
 static void end_reserved(struct text *text)
 {
-    static const uint32_t words[] = {0x00000003, 0x80000000, 0x00020004, 0x00010008, 0xe0000000, 0x60000000};
+    uint32_t why = draw_why(text->draw, text->setting);
 
-    emit(text, draw_among(text->draw, words, sizeof words / sizeof words[0]));
+    emit(text, draw_reserved(text->draw, text->setting, why));
 }
 
 /* P2, P4: a handle without an object, to be bound. */

@@ -204,6 +204,14 @@ static uint32_t place_reason(const struct code *code, const uint8_t *map, uint32
     return REASON_NONE;
 }
 
+/* G21, G40: the why of the word at a place, where that is the reason. */
+static uint32_t why_at(const struct code *code, uint32_t place, uint32_t reason)
+{
+    if (reason != REASON_RESERVED)
+        return WHY_NONE;
+    return model_read(code->setting, word_at(code, place), 0).why;
+}
+
 /* G25: reasons from 3 on, from the lowest place up. Where a pair has no reason none of its parameters is
  * marked, so that the next pair comes after them: whatever the map, each word is looked at as a parameter at
  * most once for each state. At the first reason the judgement ends. So the time is linear in the words. */
@@ -216,10 +224,10 @@ static struct judgement judge_places(const struct code *code, const uint8_t *map
         uint32_t reason = place_reason(code, map, place, &follow);
 
         if (reason != REASON_NONE)
-            return (struct judgement){reason, REFUSAL_NONE, permitted, place};
+            return (struct judgement){reason, REFUSAL_NONE, why_at(code, place, reason), permitted, place};
         place += 1 + follow.parameters;
     }
-    return (struct judgement){REASON_NONE, REFUSAL_NONE, permitted, 0};
+    return (struct judgement){REASON_NONE, REFUSAL_NONE, WHY_NONE, permitted, 0};
 }
 
 /* G24, G25, G31: the judgement. */
@@ -231,15 +239,15 @@ struct judgement model_judge(const struct submission *submission)
     struct code code;
 
     if (refusal != REFUSAL_NONE)
-        return (struct judgement){REASON_NONE, refusal, 0, 0};
+        return (struct judgement){REASON_NONE, refusal, WHY_NONE, 0, 0};
     code = model_code(submission);
     permitted = permit_count(submission->permit);
     /* G1: before any other reason. */
     over = first_over(map, code.count);
     if (over < code.count)
-        return (struct judgement){REASON_MAP_BYTE, REFUSAL_NONE, permitted, over};
+        return (struct judgement){REASON_MAP_BYTE, REFUSAL_NONE, WHY_NONE, permitted, over};
     /* G2, G30: without words there is no place 0 to be marked. */
     if (code.count != 0 && (map[0] & STATE_MAIN) == 0)
-        return (struct judgement){REASON_START, REFUSAL_NONE, permitted, 0};
+        return (struct judgement){REASON_START, REFUSAL_NONE, WHY_NONE, permitted, 0};
     return judge_places(&code, map, permitted);
 }

@@ -43,11 +43,12 @@ struct submission {
     size_t permit_length;
 };
 
-/* G24, G31: accepted are words with neither a reason nor a refusal. Only a reason has a place, and no refusal
- * has a count. */
+/* G24, G31, G40: accepted are words with neither a reason nor a refusal. Only a reason has a place, only
+ * reason 3 a why, and no refusal has a count. */
 struct judgement {
     uint32_t reason;
     uint32_t refusal;
+    uint32_t why;
     uint32_t count;
     uint32_t place;
 };

@@ -49,6 +49,7 @@ static struct judgement archive;
 static struct {
     unsigned long submissions;
     unsigned long reasons[REASON_COUNT];
+    unsigned long whys[WHY_COUNT];
     unsigned long refusals[REFUSAL_COUNT];
     unsigned long exact_maps;
     unsigned long runs;
@@ -59,8 +60,9 @@ static struct {
 
 static void print_judgement(const char *name, struct judgement judgement)
 {
-    fprintf(stderr, "%s: reason %" PRIu32 ", refusal %" PRIu32 ", count %" PRIu32 ", place %" PRIu32 "\n",
-            name, judgement.reason, judgement.refusal, judgement.count, judgement.place);
+    fprintf(stderr, "%s: reason %" PRIu32 ", refusal %" PRIu32 ", why %" PRIu32, name, judgement.reason,
+            judgement.refusal, judgement.why);
+    fprintf(stderr, ", count %" PRIu32 ", place %" PRIu32 "\n", judgement.count, judgement.place);
 }
 
 /* Says what does not hold, describes the submission and ends the run. */
@@ -104,16 +106,24 @@ static void make_rooms(void)
 
 /* ---- One submission ---- */
 
-/* G32: the parts of the answer, by the header's functions. */
+/* G32: the parts of the answer, by the header's functions: between them they have all of its bits. */
 static struct judgement unpack(upborliya_answer answer)
 {
-    return (struct judgement){upborliya_reason(answer), upborliya_refusal(answer), upborliya_count(answer),
-                              upborliya_place(answer)};
+    return (struct judgement){upborliya_reason(answer), upborliya_refusal(answer), upborliya_why(answer),
+                              upborliya_count(answer), upborliya_place(answer)};
+}
+
+/* G32: the whole number by the rule's bits, without the header. */
+static upborliya_answer packed(struct judgement judgement)
+{
+    return judgement.reason | (uint64_t)judgement.refusal << 8 | (uint64_t)judgement.why << 16 |
+           (uint64_t)judgement.count << 24 | (uint64_t)judgement.place << 40;
 }
 
 static bool same(struct judgement a, struct judgement b)
 {
-    return a.reason == b.reason && a.refusal == b.refusal && a.count == b.count && a.place == b.place;
+    return a.reason == b.reason && a.refusal == b.refusal && a.why == b.why && a.count == b.count &&
+           a.place == b.place;
 }
 
 static bool is_accepted(void)
@@ -140,7 +150,7 @@ static upborliya_answer ask(void)
     return answer;
 }
 
-/* G31, G32: the archive's judgement has to be the model's, and the byte that is left free 0. */
+/* G31, G32, G40: the archive's judgement has to be the model's, by its parts and as a number. */
 static void compare(void)
 {
     struct submission submission = submission_of(&given);
@@ -148,9 +158,10 @@ static void compare(void)
 
     if (!same(archive, model_judge(&submission)))
         fail("the archive's judgement is the model's");
-    if ((answer >> 16 & 0xff) != 0)
-        fail("bits 23-16 of the answer are 0");
+    if (answer != packed(archive))
+        fail("each part of the answer has its bits");
     counts.submissions++;
+    counts.whys[archive.why]++;
     if (archive.refusal == REFUSAL_NONE)
         counts.reasons[archive.reason]++;
     else
@@ -300,12 +311,12 @@ static uint32_t vast_refusal(void)
 /* The archive refuses by the table, and so does the model. */
 static void compare_vast(void)
 {
-    struct judgement wanted = {REASON_NONE, vast_refusal(), 0, 0};
+    struct judgement wanted = {REASON_NONE, vast_refusal(), WHY_NONE, 0, 0};
     upborliya_answer answer =
         upborliya_judge(vast.level, vast.sli, vast.words, vast.words_length, vast.map, vast.map_length,
                         vast.permit, vast.permit_length);
 
-    if (!same(unpack(answer), wanted) || (answer >> 16 & 0xff) != 0)
+    if (answer != packed(wanted))
         fail_vast("a length that no memory has is refused by the table");
     if (!same(model_judge(&vast), wanted))
         fail_vast("the model refuses such a length by the table");
@@ -357,6 +368,9 @@ static void print_summary(void)
     printf("reasons:");
     for (unsigned i = 1; i < REASON_COUNT; i++)
         printf(" %u=%lu", i, counts.reasons[i]);
+    printf("\nwhys:");
+    for (unsigned i = 1; i < WHY_COUNT; i++)
+        printf(" %u=%lu", i, counts.whys[i]);
     printf("\nrefusals:");
     for (unsigned i = 1; i < REFUSAL_COUNT; i++)
         if (counts.refusals[i] != 0)
@@ -364,15 +378,22 @@ static void print_summary(void)
     putchar('\n');
 }
 
-/* What was drawn gave each reason often enough for its comparison to mean something. */
-static void test_counts(void)
+/* Each of these numbers was given often enough. */
+static void test_given(const char *name, const unsigned long *given_times, unsigned count)
 {
-    for (unsigned i = 1; i < REASON_COUNT; i++)
-        if (counts.reasons[i] < FEWEST) {
-            fprintf(stderr, "%s: failed: reason %u was given %lu times, wanted %d\n", comparison, i,
-                    counts.reasons[i], FEWEST);
+    for (unsigned i = 1; i < count; i++)
+        if (given_times[i] < FEWEST) {
+            fprintf(stderr, "%s: failed: %s %u was given %lu times, wanted %d\n", comparison, name, i,
+                    given_times[i], FEWEST);
             exit(1);
         }
+}
+
+/* What was drawn gave each reason and each why often enough for its comparison to mean something. */
+static void test_counts(void)
+{
+    test_given("reason", counts.reasons, REASON_COUNT);
+    test_given("why", counts.whys, WHY_COUNT);
 }
 
 int main(void)

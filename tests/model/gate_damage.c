@@ -184,13 +184,19 @@ static void replace(struct given *given, uint32_t place, uint32_t word)
         set_word(given, place, word);
 }
 
-/* G3: words of no form, and the long form. */
+/* G3, G40: a word that is reserved, for any of the whys: of no form; the long form; a conditional without
+ * SLI, or below its level; and what low levels lack. */
 static void damage_reserved(struct draw *draw, struct given *given)
 {
-    static const uint32_t words[] = {0x00000003, 0x80000000, 0x00020004, 0x00010008, 0x00030100,
-                                     0xe0000000, 0x60000000, 0xa0000000, UINT32_MAX};
-    uint32_t word = draw_among(draw, words, sizeof words / sizeof words[0]);
+    static const uint32_t words[] = {0x00000003, 0x80000000, 0x00020004, 0x00010008, 0xe0000000, 0x60000000,
+                                     UINT32_MAX, 0x00030100, 0x0003fffc, 0x00034000, 0x00010050, 0x0001fff0,
+                                     0x00010000, 0x00010020, 0x40000100, 0x00000001, 0x00000002, 0x00020000};
+    struct setting setting = {given->level, MODE_NV04, given->sli != 0};
+    uint32_t word;
 
+    do
+        word = draw_among(draw, words, sizeof words / sizeof words[0]);
+    while (model_read(setting, word, 0).number != READING_RESERVED);
     replace(given, draw_start(draw, given, is_any), word);
 }
 

@@ -245,13 +245,13 @@ static void put_drawn_repairs(struct vectors *vectors)
         damage(draw, &given, i % damage_count());
         put_repair_roomy(vectors);
     }
-    for (unsigned i = 0; i < 80; i++) {
+    for (unsigned i = 0; i < 100; i++) {
         draw_wild(draw, &given, draw_size(draw));
         if (i % 2 == 0)
             draw_map(draw, &given);
         put_repair_roomy(vectors);
     }
-    for (unsigned i = 0; i < 210; i++) {
+    for (unsigned i = 0; i < 230; i++) {
         draw_tangle(draw, &given, draw_size(draw));
         put_repair_roomy(vectors);
     }

@@ -268,13 +268,17 @@ struct c_setting {
     uint32_t sli;
 };
 
+/* W19: a question, and the number that is answered. */
 static void put_reading(struct vectors *vectors, struct c_setting setting, uint32_t word, uint32_t next)
 {
     uint64_t number = model_reading_number(setting.level, setting.mode, setting.sli, word, next);
-    uint32_t words[] = {setting.level,           setting.mode, setting.sli, word, next, (uint32_t)number,
-                        (uint32_t)(number >> 32)};
+    uint32_t low = (uint32_t)number;
+    uint32_t high = (uint32_t)(number >> 32);
+    uint32_t words[] = {setting.level, setting.mode, setting.sli, word, next, low, high};
 
-    put_record(vectors, READ, words, sizeof words / sizeof words[0], (uint32_t)number & 0xff);
+    put_record(vectors, READ, words, sizeof words / sizeof words[0], low & 0xff);
+    if ((low & 0xff) == READING_RESERVED)
+        count_one(vectors, READ_WHY, low >> 16 & 0xff);
 }
 
 enum { GRID = 42, OTHERS = 12 };
@@ -347,6 +351,20 @@ static void put_reading_drawn(struct vectors *vectors)
     put_reading(vectors, any, draw_once_in(draw, 3) ? word : form, next);
 }
 
+/* W19, W20, W21, W22, W23, W24: for each why that a setting has, words that are reserved for it. */
+static void put_reading_whys(struct vectors *vectors, struct c_setting setting)
+{
+    struct setting good = {setting.level, setting.mode, setting.sli != 0};
+
+    for (uint32_t i = 0; i < 4 * WHY_SLI; i++) {
+        uint32_t why = WHY_FORM + i / 4;
+        uint32_t next = draw_number(&vectors->draw);
+
+        if (why_fits(good, why))
+            put_reading(vectors, setting, draw_reserved(&vectors->draw, good, why), next);
+    }
+}
+
 /* W1, W2, W3, W4, W5, W6, W7, W8, W13, W19, R22: readings for C. */
 void put_readings(struct vectors *vectors)
 {
@@ -355,9 +373,11 @@ void put_readings(struct vectors *vectors)
         struct c_setting setting = grid_at(&vectors->draw, i);
 
         put_reading_words(vectors, setting);
-        if (model_setting_refusal((struct setting){setting.level, setting.mode, setting.sli != 0}) ==
+        if (model_setting_refusal((struct setting){setting.level, setting.mode, setting.sli != 0}) !=
             REFUSAL_NONE)
-            put_reading_forms(vectors, setting);
+            continue;
+        put_reading_forms(vectors, setting);
+        put_reading_whys(vectors, setting);
     }
     for (unsigned i = 0; i < OTHERS; i++)
         put_reading_words(vectors, others[i]);

@@ -19,13 +19,15 @@ static void check(bool good, const char *sentence, uint32_t level, struct judgem
         return;
     fprintf(stderr, "gate model: failed: %s (level %" PRIu32 "; reason %" PRIu32 ", refusal %" PRIu32,
             sentence, level, judgement.reason, judgement.refusal);
-    fprintf(stderr, ", count %" PRIu32 ", place %" PRIu32 ")\n", judgement.count, judgement.place);
+    fprintf(stderr, ", why %" PRIu32 ", count %" PRIu32 ", place %" PRIu32 ")\n", judgement.why,
+            judgement.count, judgement.place);
     exit(1);
 }
 
 static bool same(struct judgement a, struct judgement b)
 {
-    return a.reason == b.reason && a.refusal == b.refusal && a.count == b.count && a.place == b.place;
+    return a.reason == b.reason && a.refusal == b.refusal && a.why == b.why && a.count == b.count &&
+           a.place == b.place;
 }
 
 /* ---- What is lent ---- */
@@ -59,15 +61,16 @@ static void judges(const char *sentence, struct judgement wanted)
     check(same(judgement, wanted), sentence, given.level, judgement);
 }
 
+/* G40: no reason but 3 has a why. */
 static void gives_reason(const char *sentence, uint32_t reason, uint32_t count, uint32_t place)
 {
-    judges(sentence, (struct judgement){reason, REFUSAL_NONE, count, place});
+    judges(sentence, (struct judgement){reason, REFUSAL_NONE, WHY_NONE, count, place});
 }
 
-/* G24, G31: the submission is refused, which has neither a count nor a place. */
+/* G24, G31, G40: the submission is refused, which has neither a why nor a count nor a place. */
 static void gives_refusal(const char *sentence, uint32_t refusal)
 {
-    judges(sentence, (struct judgement){REASON_NONE, refusal, 0, 0});
+    judges(sentence, (struct judgement){REASON_NONE, refusal, WHY_NONE, 0, 0});
 }
 
 /* ---- Refusals ---- */
@@ -167,8 +170,8 @@ struct row {
     uint32_t place;
 };
 
-/* G1, G2, G3, G4, G5, G6, G7, G9, G10, G11, G12, G13, G21, G22, G25, G26, G27, G28, G29, G30: each reason at
- * its place, where two could be given, and next to what is accepted. */
+/* G1, G2, G4, G5, G6, G7, G9, G10, G11, G12, G13, G21, G22, G25, G26, G27, G28, G29, G30: each reason but 3
+ * at its place, where two could be given, and next to what is accepted. */
 static const struct row rows[] = {
     {"no words", 0, 0, 0, {0}, {0}, 0, 0},
 
@@ -179,18 +182,10 @@ static const struct row rows[] = {
     {"2: place 0 is inside alone", 0, 0, 2, {0, 0}, {2, 1}, 2, 0},
     {"2 comes before 3", 0, 0, 2, {0, 3}, {0, 1}, 2, 0},
 
-    {"3: a word of no form", 0, 0, 1, {0x00000003}, {1}, 3, 0},
-    {"3: non-increasing at level 0", 0, 0, 1, {0x40000100}, {1}, 3, 0},
     {"non-increasing at level 1", 1, 0, 1, {0x40000100}, {1}, 0, 0},
-    {"3: a jump at level 1", 1, 0, 1, {0x00000001}, {1}, 3, 0},
     {"10: a jump, whatever its upper half", 2, 0, 1, {0x00010001}, {1}, 10, 0},
-    {"3: a return at level 1", 1, 0, 1, {0x00020000}, {3}, 3, 0},
-    {"3: a conditional with SLI off", 3, 0, 1, {0x00010050}, {1}, 3, 0},
     {"a conditional with SLI on", 3, 9, 1, {0x00010050}, {1}, 0, 0},
-    {"3: a long form", 5, 1, 1, {0x00030100}, {1}, 3, 0},
     {"a word that is no start", 5, 0, 3, {0x20000008, 3, 0}, {1, 0, 1}, 0, 0},
-    {"a start that isn't reached", 5, 0, 2, {0x20000000, 3}, {1, 1}, 3, 1},
-    {"a start that isn't reached", 5, 0, 2, {0x20000000, 3}, {1, 2}, 3, 1},
 
     {"4: a call inside", 2, 0, 1, {0x00000002}, {3}, 4, 0},
     {"a call in main", 2, 0, 2, {0x00000006, 0x20000004}, {1, 3}, 0, 0},
@@ -272,9 +267,47 @@ static const struct row rows[] = {
     {"11: the word after a call", 2, 0, 3, {0x0000000a, 0x2000000c, 0x00020000}, {1, 2, 2}, 11, 0},
     {"a call as the last word", 2, 0, 3, {0x20000008, 0x00020000, 0x00000006}, {1, 2, 1}, 0, 0},
 
-    {"the lower place comes first", 0, 0, 3, {0, 3, 0x00040100}, {1, 1, 1}, 3, 1},
     {"the lower place comes first", 0, 0, 3, {0, 0x00040100, 3}, {1, 1, 1}, 9, 1},
     {"a place for both states", 2, 0, 3, {0x0000000a, 0, 0x20000008}, {1, 1, 3}, 0, 0},
+};
+
+/* G3, G21, G25, G26, G40: reason 3 with the why of the word at its place: the first, in the middle, the last,
+ * marked for main, for both states or inside alone; before the reasons that the same word would have at a
+ * higher level, and before other words. */
+static const struct {
+    struct row row;
+    uint32_t why;
+} why_rows[] = {
+    {{"3: a word of no form", 0, 0, 1, {0x00000003}, {1}, 3, 0}, WHY_FORM},
+    {{"3: a word of no form", 5, 1, 1, {0x00020004}, {3}, 3, 0}, WHY_FORM},
+    {{"3: nearly a conditional", 3, 0, 1, {0x00010008}, {1}, 3, 0}, WHY_FORM},
+    {{"3: non-increasing at level 0", 0, 0, 1, {0x40000100}, {1}, 3, 0}, WHY_LEVEL},
+    {{"3: non-increasing at level 0, short", 0, 0, 1, {0x40040100}, {1}, 3, 0}, WHY_LEVEL},
+    {{"3: a jump at level 1", 1, 0, 1, {0x00000001}, {1}, 3, 0}, WHY_LEVEL},
+    {{"3: a jump at level 1, whatever its upper half", 1, 0, 1, {0x00010001}, {1}, 3, 0}, WHY_LEVEL},
+    {{"3: a return at level 1", 1, 0, 1, {0x00020000}, {3}, 3, 0}, WHY_LEVEL},
+    {{"3: a call at level 1", 1, 0, 1, {0x00002002}, {3}, 3, 0}, WHY_LEVEL},
+    {{"3: a conditional at level 0", 0, 0, 1, {0x00010050}, {1}, 3, 0}, WHY_LEVEL},
+    {{"3: a conditional at level 1", 1, 0, 1, {0x00010050}, {1}, 3, 0}, WHY_LEVEL},
+    {{"3: a conditional at level 2", 2, 0, 1, {0x00010050}, {1}, 3, 0}, WHY_LEVEL},
+    {{"3: a conditional with SLI off", 3, 0, 1, {0x00010050}, {1}, 3, 0}, WHY_SLI},
+    {{"3: a conditional with SLI off", 4, 0, 1, {0x0001fff0}, {3}, 3, 0}, WHY_SLI},
+    {{"3: a conditional with SLI off", 5, 0, 1, {0x00010000}, {1}, 3, 0}, WHY_SLI},
+    {{"3: a long form at level 0", 0, 0, 1, {0x00030100}, {1}, 3, 0}, WHY_MODE},
+    {{"3: a long form at level 3", 3, 9, 1, {0x00030100}, {1}, 3, 0}, WHY_MODE},
+    {{"3: a long form at level 5", 5, 1, 1, {0x00030100}, {1}, 3, 0}, WHY_MODE},
+    {{"a start that isn't reached", 5, 0, 2, {0x20000000, 3}, {1, 1}, 3, 1}, WHY_FORM},
+    {{"a start that isn't reached", 5, 0, 2, {0x20000000, 3}, {1, 2}, 3, 1}, WHY_FORM},
+    {{"3: in the middle", 0, 0, 3, {0, 0x00000002, 0}, {1, 1, 1}, 3, 1}, WHY_LEVEL},
+    {{"3: in the middle", 3, 0, 3, {0, 0x00030000, 0}, {1, 1, 1}, 3, 1}, WHY_MODE},
+    {{"3: in the middle", 3, 0, 3, {0, 0x00010000, 0}, {1, 1, 1}, 3, 1}, WHY_SLI},
+    {{"3: inside alone", 1, 0, 2, {0x20000000, 0x00020000}, {1, 2}, 3, 1}, WHY_LEVEL},
+    {{"3: inside alone", 4, 1, 2, {0x20000000, 0x0003fffc}, {1, 2}, 3, 1}, WHY_MODE},
+    {{"3: inside alone", 5, 0, 2, {0x20000000, 0x00010ff0}, {1, 2}, 3, 1}, WHY_SLI},
+    {{"the lower place comes first", 0, 0, 3, {0, 3, 0x00040100}, {1, 1, 1}, 3, 1}, WHY_FORM},
+    {{"the lower of two whys", 3, 0, 3, {0, 0x00010050, 3}, {1, 1, 1}, 3, 1}, WHY_SLI},
+    {{"the lower of two whys", 3, 0, 3, {0, 0x00030100, 0x00010050}, {1, 1, 1}, 3, 1}, WHY_MODE},
+    {{"a word that is no start has no why", 3, 0, 3, {0x20000008, 3, 0x00010050}, {1, 0, 1}, 3, 2}, WHY_SLI},
 };
 
 static void give_row(const struct row *row)
@@ -293,6 +326,13 @@ static void test_rows(void)
     for (size_t i = 0; i < sizeof rows / sizeof rows[0]; i++) {
         give_row(&rows[i]);
         gives_reason(rows[i].sentence, rows[i].reason, ALL_PERMITTED, rows[i].place);
+    }
+    for (size_t i = 0; i < sizeof why_rows / sizeof why_rows[0]; i++) {
+        const struct row *row = &why_rows[i].row;
+
+        give_row(row);
+        judges(row->sentence,
+               (struct judgement){row->reason, REFUSAL_NONE, why_rows[i].why, ALL_PERMITTED, row->place});
     }
 }
 
@@ -667,6 +707,20 @@ static uint32_t first_of_reasons(const struct submission *submission, struct pai
     return REASON_NONE;
 }
 
+/* W20, W21, W22, W23, G21, G40: why a word that is reserved in NV04-style is so: those of the other mode and
+ * the conditionals are told apart by their upper half, and of any other form that may not be used the level
+ * is too low. */
+static uint32_t why_by_conditions(uint32_t level, uint32_t word)
+{
+    if (word >> 16 == 3 && word % 4 == 0)
+        return WHY_MODE;
+    if (word >> 16 == 1 && word % 16 == 0)
+        return level < 3 ? WHY_LEVEL : WHY_SLI;
+    if (word % 4 == 1 || word % 4 == 2 || word == 0x00020000 || (word & 0xe0030003) == 0x40000000)
+        return WHY_LEVEL;
+    return WHY_FORM;
+}
+
 /* G24: the bits of the list, one at a time. */
 static uint32_t count_permitted(const struct submission *submission)
 {
@@ -677,7 +731,7 @@ static uint32_t count_permitted(const struct submission *submission)
     return count;
 }
 
-/* G1, G2, G25, G30: the judgement of a submission that isn't refused. */
+/* G1, G2, G25, G30, G40: the judgement of a submission that isn't refused. */
 static struct judgement judge_by_conditions(const struct submission *submission)
 {
     uint32_t permitted = count_permitted(submission);
@@ -685,18 +739,19 @@ static struct judgement judge_by_conditions(const struct submission *submission)
 
     for (uint32_t place = 0; place < count; place++)
         if (submission->map[place] > 3)
-            return (struct judgement){1, 0, permitted, place};
+            return (struct judgement){1, 0, 0, permitted, place};
     if (count != 0 && submission->map[0] % 2 == 0)
-        return (struct judgement){2, 0, permitted, 0};
+        return (struct judgement){2, 0, 0, permitted, 0};
     /* Pair i is the main one or the other of place i / 2. */
     for (uint32_t i = 0; i < 2 * count; i++) {
         struct pair pair = {i / 2, 1 + i % 2};
         uint32_t reason = first_of_reasons(submission, pair);
+        uint32_t why = why_by_conditions(submission->level, word_of(&given, pair.place));
 
         if ((submission->map[pair.place] & pair.state) != 0 && reason != REASON_NONE)
-            return (struct judgement){reason, 0, permitted, pair.place};
+            return (struct judgement){reason, 0, reason == 3 ? why : 0, permitted, pair.place};
     }
-    return (struct judgement){0, 0, permitted, 0};
+    return (struct judgement){0, 0, 0, permitted, 0};
 }
 
 /* H2: the reasons that don't look at a map. */
@@ -767,7 +822,7 @@ static struct path path_by_conditions(const struct submission *submission, uint8
 
 enum { FEW_WORDS = 40 };
 
-/* R28, G25, G26, G31: the model's judgement, which the second reading gives too. */
+/* R28, G25, G26, G31, G40: the model's judgement, which the second reading gives too. */
 static struct judgement test_judgement(void)
 {
     struct submission submission = lend();
@@ -775,7 +830,7 @@ static struct judgement test_judgement(void)
     uint32_t refusal = first_of_refusals();
 
     if (refusal != REFUSAL_NONE)
-        check(same(judgement, (struct judgement){0, refusal, 0, 0}), "refusals", given.level, judgement);
+        check(same(judgement, (struct judgement){0, refusal, 0, 0, 0}), "refusals", given.level, judgement);
     else
         check(same(judgement, judge_by_conditions(&submission)), "the second reading", given.level,
               judgement);

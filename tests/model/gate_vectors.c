@@ -2,26 +2,30 @@
  * little-endian words. A record starts with its kind:
  *   1 JUDGE  level, SLI, length of the words, of the map and of the permit list in bytes, the permit list's
  *            fill byte, how many of its bytes are others, their indices and values, the words, the map
- *            | reason, refusal, count, place
+ *            | reason, refusal, why, count, place
  *   2 LARGE  level, SLI, the three lengths, the permit list's fill byte, every byte of the words, every byte
- *            of the map | reason, refusal, count, place
+ *            of the map | reason, refusal, why, count, place
  *   3 REPAIR level, SLI, the three lengths, the permit list's fill byte, how many of its bytes are others,
  *            entries of the list's room, of the work room, the others' indices and values, the words, the
- * map | refusal, count, the map at exit, how many entries of the list's room follow, these, how many of the
- * work room, these 4 WIDE   level, SLI, the three lengths, the permit list's fill byte, entries of the
- * list's room, of the work room, every byte of the words, every byte of the map | refusal, count, the map's
- * byte at exit at place 0, at every other place; 0 where there is none 5 SEARCH level, mode, SLI, length of
- * the words and of the permit list in bytes, the list's fill byte, how many of its bytes are others, entries
- * of the room, the others' indices and values, the words | refusal, count, how many entries of the room
- * follow, these 6 READ   level, mode, SLI, word, next word | the number for C, lower half, upper half The
- * bytes of words and map fill words from the low byte on, the last one up with 0. An entry of a room is its
- * lower half, then its upper half; before, each is 0xfedcba9876543210, and so are afterwards those that
- * don't follow. Of a refusal none follow, else the whole list, and two a word of the other rooms. With
- * --counts it prints how many records there are of each kind, and how many per answer, instead. */
+ *            map | refusal, count, the map at exit, how many entries of the list's room follow, these, how
+ *            many of the work room, these
+ *   4 WIDE   level, SLI, the three lengths, the permit list's fill byte, entries of the list's room, of the
+ *            work room, every byte of the words, every byte of the map
+ *            | refusal, count, the map's byte at exit at place 0, at every other place; 0 where none is
+ *   5 SEARCH level, mode, SLI, length of the words and of the permit list in bytes, the list's fill byte,
+ *            how many of its bytes are others, entries of the room, the others' indices and values, the
+ *            words | refusal, count, how many entries of the room follow, these
+ *   6 READ   level, mode, SLI, word, next word | the number for C, lower half, upper half
+ * A why is that of reason 3, 1 to 4, and 0 of any other answer; the number for C has that of a reserved word
+ * in bits 23-16. The bytes of words and map fill words from the low byte on, the last one up with 0. An entry
+ * of a room is its lower half, then its upper half; before, each is 0xfedcba9876543210, and so are afterwards
+ * those that don't follow. Of a refusal none follow, else the whole list, and two a word of the other rooms.
+ * With --counts it prints how many records there are of each kind, and how many per answer, instead. */
 #include "gate_vectors.h"
+#include "pattern.h"
 
 /* What a JUDGE record can hold. */
-enum { MOST_RECORD = 7 + 2 * MOST_LISTED + MOST_WORDS + MOST_WORDS / 4 + 4 };
+enum { MOST_RECORD = 7 + 2 * MOST_LISTED + MOST_WORDS + MOST_WORDS / 4 + 5 };
 
 /* The answers under which refused records are counted, apart from reasons. */
 enum { ANSWER_REFUSED = 20 };
@@ -183,6 +187,23 @@ static void count_wraps(struct vectors *vectors, struct judgement judgement)
         count_wrap(vectors, run_end(judgement.place) > METHODS, WRAP_SHORT);
 }
 
+/* G40: the why of reason 3, and once more each where it is at place 0, between other words, and at a place
+ * that is marked inside alone. */
+static void count_whys(struct vectors *vectors, struct judgement judgement)
+{
+    uint32_t place = judgement.place;
+
+    if (judgement.reason != REASON_RESERVED)
+        return;
+    count_one(vectors, WHY, judgement.why);
+    if (place == 0)
+        count_one(vectors, FIRST_WHY, judgement.why);
+    if (place != 0 && place + 1 < word_count(&given))
+        count_one(vectors, MIDDLE_WHY, judgement.why);
+    if (given.map[place] == STATE_SUBROUTINE)
+        count_one(vectors, INSIDE_WHY, judgement.why);
+}
+
 /* G13, G26: whether nothing else is against the methods and the parameters of a run. */
 static bool is_decided_by_wrap(uint32_t place)
 {
@@ -207,7 +228,7 @@ static uint32_t misreading(struct judgement judgement)
     return MISREADING_NONE;
 }
 
-/* G24, G31: the record of the submission, its answer still to be added. */
+/* G24, G31, G40: the record of the submission, its answer still to be added. */
 static void put_judged(struct vectors *vectors, uint32_t kind, uint32_t *record, size_t count)
 {
     struct submission submission = submission_of(&given);
@@ -217,6 +238,7 @@ static void put_judged(struct vectors *vectors, uint32_t kind, uint32_t *record,
 
     record[count++] = judgement.reason;
     record[count++] = judgement.refusal;
+    record[count++] = judgement.why;
     record[count++] = judgement.count;
     record[count++] = judgement.place;
     put_record(vectors, kind, record, count,
@@ -225,6 +247,7 @@ static void put_judged(struct vectors *vectors, uint32_t kind, uint32_t *record,
         count_one(vectors, REFUSED, judgement.refusal);
     else
         count_wraps(vectors, judgement);
+    count_whys(vectors, judgement);
     if (misread != MISREADING_NONE)
         count_one(vectors, MISREADING, misread);
 }
@@ -416,6 +439,50 @@ static void put_inside_wraps(struct vectors *vectors)
     }
 }
 
+/* G3, G21, G25, G40: a word that is reserved for a why, at place 0, between words in main, or inside alone;
+ * before it are no other reasons, and behind it is a word of no form, whose why is not the one to be told. */
+static void put_reserved(struct vectors *vectors, uint32_t why)
+{
+    static const struct {
+        uint32_t place;
+        uint8_t marks[4];
+    } ways[] = {{0, {STATE_MAIN, STATE_MAIN, 0, 0}},
+                {2, {STATE_MAIN, STATE_MAIN, STATE_MAIN, STATE_MAIN}},
+                {1, {STATE_MAIN, STATE_SUBROUTINE, STATE_BOTH, STATE_MAIN}}};
+    struct setting setting = {given.level, MODE_NV04, given.sli != 0};
+
+    for (unsigned i = 0; i < sizeof ways / sizeof ways[0]; i++) {
+        uint32_t place = ways[i].place;
+
+        set_count(&given, 4);
+        fill_permit(&given, 0xff);
+        for (uint32_t j = 0; j < 4; j++)
+            give_start(j, j <= place ? 0 : 0x00000003, ways[i].marks[j]);
+        /* A jump onto itself, behind which the next start may be of another state. */
+        if (place == 1)
+            set_word(&given, 0, 0x20000000);
+        set_word(&given, place, draw_reserved(&vectors->draw, setting, why));
+        put_judge(vectors);
+    }
+}
+
+/* W20, W21, W22, W23, G40: each why at each setting that has it; LEVEL and SLI, which fewer settings have,
+ * more often. */
+static void put_reserveds(struct vectors *vectors)
+{
+    static const unsigned times[] = {[WHY_FORM] = 1, [WHY_LEVEL] = 5, [WHY_MODE] = 2, [WHY_SLI] = 5};
+
+    for (unsigned i = 0; i < SETTINGS * WHY_SLI; i++) {
+        uint32_t why = WHY_FORM + i / SETTINGS;
+
+        give_setting(i % SETTINGS);
+        if (!why_fits((struct setting){given.level, MODE_NV04, given.sli != 0}, why))
+            continue;
+        for (unsigned j = 0; j < times[why]; j++)
+            put_reserved(vectors, why);
+    }
+}
+
 /* G7, G8, G13, G23, G24, G29: a run of any method, of fewer parameters than a limit: one of its methods is
  * not permitted, or the one after it, or all are. Some come to 0x1ffc with their last parameter, or with the
  * one before. */
@@ -513,7 +580,7 @@ struct large {
 
 static void put_large(struct vectors *vectors, const struct large *large)
 {
-    uint32_t record[8 + 4];
+    uint32_t record[8 + 5];
     size_t count;
 
     given.level = large->level;
@@ -564,6 +631,9 @@ static void put_larges(struct vectors *vectors)
         {1, 0, 4 * 1800, 1800, 2048, 0xff, 0x1c, 1},
         {0, 0, 4 * ALL, ALL, 2048, 0x00, 0x10, 3},
         {0, 0, 4 * ALL, ALL, 2048, 0xff, 0x0c, 3},
+        /* Reserved words: of no form, and calls below their level. */
+        {5, 1, 4 * ALL, ALL, 2048, 0xff, 0xff, 1},
+        {1, 0, 4 * ALL, ALL, 2048, 0xff, 0x02, 3},
     };
 
     for (size_t i = 0; i < sizeof rows / sizeof rows[0]; i++)
@@ -575,12 +645,15 @@ static void put_larges(struct vectors *vectors)
 int main(int count, char **arguments)
 {
     /* JUDGE and LARGE are counted by the reason, 0 where accepted, or by 20 plus the refusal; REFUSED by the
-     * refusal, MISREADING by what is caught, WRAP by what is shown of runs and 0x1ffc. REPAIR, WIDE and
-     * SEARCH by the refusal, 0 where there is none, READ by the reading's number. */
+     * refusal, MISREADING by what is caught, WRAP by what is shown of runs and 0x1ffc, WHY by the why of
+     * reason 3; FIRST_WHY, MIDDLE_WHY and INSIDE_WHY are those of place 0, of a place between others and of
+     * one that is marked inside alone. REPAIR, WIDE and SEARCH by the refusal, 0 where there is none, READ by
+     * the reading's number, READ_WHY by its why. */
     static const char *const names[] = {
-        "JUDGE",      "LARGE",   "REPAIR", "WIDE", "SEARCH", "READ",  "REFUSED",
-        "MISREADING", "CHANGED", "CHANGE", "MARK", "BAD",    "SHORT", "FOUND",
-        "ORDER",      "SETTING", "LIST",   "CUT",  "WRAP",   "PATH",
+        "JUDGE",      "LARGE",      "REPAIR",     "WIDE",     "SEARCH", "READ",  "REFUSED",
+        "MISREADING", "CHANGED",    "CHANGE",     "MARK",     "BAD",    "SHORT", "FOUND",
+        "ORDER",      "SETTING",    "LIST",       "CUT",      "WRAP",   "PATH",  "WHY",
+        "FIRST_WHY",  "MIDDLE_WHY", "INSIDE_WHY", "READ_WHY",
     };
     static struct vectors vectors = {.draw = {0x5eed}};
 
@@ -590,6 +663,7 @@ int main(int count, char **arguments)
     put_one_word(&vectors);
     put_wraps(&vectors);
     put_inside_wraps(&vectors);
+    put_reserveds(&vectors);
     put_runs(&vectors);
     put_drawn(&vectors);
     put_larges(&vectors);

@@ -29,7 +29,12 @@ enum {
     LIST = 17,
     CUT = 18,
     WRAP = 19,
-    PATH = 20
+    PATH = 20,
+    WHY = 21,
+    FIRST_WHY = 22,
+    MIDDLE_WHY = 23,
+    INSIDE_WHY = 24,
+    READ_WHY = 25
 };
 
 /* What a record can hold of words, and of bytes of the permit list that aren't the fill byte. */

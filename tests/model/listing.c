@@ -17,7 +17,13 @@ static uint64_t words_of(struct reading command)
 
 static struct listed without_command(uint32_t answer, uint32_t refusal)
 {
-    return (struct listed){answer, {0, {refusal, 0, 0}}};
+    return (struct listed){answer, {0, {refusal, 0, 0}, WHY_NONE}};
+}
+
+/* K3, K6: the end that says why. */
+static struct listed at_reserved(uint32_t why)
+{
+    return (struct listed){LISTED_RESERVED, {0, {0, 0, 0}, why}};
 }
 
 /* R23, K2, K3, K4: one answer. A word at a place has the same refusals, and past the last word the same
@@ -32,7 +38,7 @@ struct listed model_listing_next(struct setting setting, const uint32_t *words, 
     case READING_PAST:
         return without_command(LISTED_PAST, REFUSAL_NONE);
     case READING_RESERVED:
-        return without_command(LISTED_RESERVED, REFUSAL_NONE);
+        return at_reserved(reading.why);
     default:
         break;
     }

@@ -7,8 +7,8 @@
 /* K2, K3: what the reader answers, a command, one of the three ends, or a refusal. */
 enum { LISTED_COMMAND = 1, LISTED_PAST = 2, LISTED_RESERVED = 3, LISTED_SHORT = 4, LISTED_REFUSED = 5 };
 
-/* The answer, with the command's reading. Without a command the reading is 0 throughout, but for a refusal's
- * number, which is its first value. */
+/* K6: the answer, with the command's reading. Without a command the reading is 0 throughout, but for a
+ * refusal's number, which is its first value, and for the why of a reserved word. */
 struct listed {
     uint32_t answer;
     struct reading reading;

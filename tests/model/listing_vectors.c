@@ -4,11 +4,12 @@
  *            | how many answers (at most 300), the answers
  *   2 LARGE  level, mode, SLI, place to start from, how many words (at most 1,048,580), the word that all of
  *            them are | one answer
- * An answer has six words:
+ * An answer has seven words:
  *   1 command, 2 past the last word, 3 at a reserved word, 4 at a command short of its words, 5 refused
  *   the reading's number, 0 without a command: 1 increasing, 2 non-increasing, 3 SLI conditional, 4 return,
  *     5 long, 6 old jump, 7 jump, 8 call
  *   its three values, those not used 0; those of a refusal are its number and 0; an end has none
+ *   the why of a reserved word, 1 to 4; 0 of any other answer
  *   the place after it
  * Methods and targets are byte numbers. The answers of a LIST go on to an end or a refusal, which is asked
  * for two times more. With --counts it prints how many records there are of each kind, and how many per
@@ -18,9 +19,9 @@
 #include "vectors.h"
 
 /* What is counted: the kinds of record, then what --counts tells of both. */
-enum { LIST = 1, LARGE = 2, END = 3, SHORT = 4, FORM = 5, REFUSED = 6 };
+enum { LIST = 1, LARGE = 2, END = 3, SHORT = 4, FORM = 5, REFUSED = 6, WHY = 7, END_WHY = 8 };
 
-enum { MOST_WORDS = 256, MOST_ANSWERS = 300, ANSWER_WORDS = 6, LARGE_ROOM = SIZE_LIMIT + 4 };
+enum { MOST_WORDS = 256, MOST_ANSWERS = 300, ANSWER_WORDS = 7, LARGE_ROOM = SIZE_LIMIT + 4 };
 
 /* ---- Answers ---- */
 
@@ -53,6 +54,9 @@ static void count_answer(struct vectors *vectors, struct listed listed, uint64_t
     case LISTED_SHORT:
         count_one(vectors, SHORT, short_form(place));
         break;
+    case LISTED_RESERVED:
+        count_one(vectors, is_first ? WHY : END_WHY, listed.reading.why);
+        break;
     default:
         break;
     }
@@ -65,8 +69,8 @@ static struct listed add_answer(uint32_t *record, uint64_t *place)
 {
     struct listed listed = model_listing_next(given.setting, given.words, given.count, place);
     const uint32_t *value = listed.reading.value;
-    uint32_t answer[ANSWER_WORDS] = {listed.answer, listed.reading.number, value[0], value[1],
-                                     value[2],      (uint32_t)*place};
+    uint32_t answer[ANSWER_WORDS] = {listed.answer, listed.reading.number, value[0],        value[1],
+                                     value[2],      listed.reading.why,    (uint32_t)*place};
 
     memcpy(record, answer, sizeof answer);
     return listed;
@@ -183,15 +187,10 @@ static void give_commands(struct draw *draw, uint32_t commands)
     }
 }
 
-/* A word that is reserved at the setting. */
+/* A word that is reserved at the setting, for any why that it has. */
 static void give_reserved(struct draw *draw)
 {
-    uint32_t word;
-
-    do
-        word = draw_once_in(draw, 3) ? draw_number(draw) | 3 : draw_word(draw);
-    while (model_read(given.setting, word, 0).number != READING_RESERVED);
-    give_word(word);
+    give_word(draw_reserved(draw, given.setting, draw_why(draw, given.setting)));
 }
 
 /* ---- Settings ---- */
@@ -367,6 +366,25 @@ static void put_without_count(struct vectors *vectors, struct setting setting)
     put_list(vectors);
 }
 
+/* K3, K6: for each why that the setting has, a word that is reserved for it as the first, and behind
+ * commands; what stands behind it is not come to. */
+static void put_whys(struct vectors *vectors, struct setting setting)
+{
+    struct draw *draw = &vectors->draw;
+
+    for (uint32_t i = 0; i < 2 * WHY_SLI; i++) {
+        uint32_t why = WHY_FORM + i / 2;
+
+        if (!why_fits(setting, why))
+            continue;
+        give_nothing(setting, 0);
+        give_commands(draw, i % 2 == 0 ? 0 : 1 + draw_below(draw, 2));
+        give_word(draw_reserved(draw, setting, why));
+        give_parameters(draw, draw_below(draw, 3));
+        put_list(vectors);
+    }
+}
+
 /* Any words, most with small counts. */
 static void put_any(struct vectors *vectors, struct setting setting)
 {
@@ -410,7 +428,11 @@ static void put_lists(struct vectors *vectors)
             put_without_count(vectors, setting);
         for (unsigned j = 0; j < 24; j++)
             put_any(vectors, setting);
-        put_most(vectors, setting);
+        for (unsigned j = 0; j < 3; j++)
+            put_whys(vectors, setting);
+        /* With SLI on they would be the same. */
+        if (!setting.sli)
+            put_most(vectors, setting);
     }
 }
 
@@ -444,7 +466,7 @@ static void put_large(struct vectors *vectors, const struct large *large)
     put_record(vectors, LARGE, record, count, listed.answer);
 }
 
-/* R8, R23, W15, K2, K3: places of the most words, too many of them, and runs over all of them. */
+/* R8, R23, W15, K2, K3, K6: places of the most words, too many of them, and runs over all of them. */
 static void put_larges(struct vectors *vectors)
 {
     /* The word 0x0003fffc is a long form whose count word, the same, gives 0x3fffc parameters; 0x1ffce100 is
@@ -478,6 +500,11 @@ static void put_larges(struct vectors *vectors)
         {{1, MODE_NV04, false}, 0, RUN_WORDS - 1, 0x1ffce100},
         {{1, MODE_NV04, false}, ALL - RUN_WORDS, ALL, 0x5ffce100},
         {{1, MODE_NV04, false}, ALL - RUN_WORDS + 1, ALL, 0x5ffce100},
+        /* Reserved words, for each other why, the last of all. */
+        {{0, MODE_NV04, false}, ALL - 1, ALL, 0x5ffce100},
+        {{2, MODE_NV04, false}, ALL - 1, ALL, 0x0001fff0},
+        {{3, MODE_NV04, true}, ALL - 1, ALL, 0x0003fffc},
+        {{3, MODE_NV04, false}, ALL - 1, ALL, 0x0001fff0},
     };
 
     for (size_t i = 0; i < sizeof rows / sizeof rows[0]; i++)
@@ -490,8 +517,9 @@ int main(int count, char **arguments)
 {
     /* LIST is counted by the answer that it comes to, LARGE by its one answer, END by the ends that commands
      * came before, SHORT by the form whose words run short, 0 for a long form that lacks its count word, FORM
-     * by the commands' readings, REFUSED by the refusal. */
-    static const char *const names[] = {"LIST", "LARGE", "END", "SHORT", "FORM", "REFUSED"};
+     * by the commands' readings, REFUSED by the refusal. WHY counts the ends at a reserved word that are the
+     * first answer, END_WHY those that commands came before, by their why. */
+    static const char *const names[] = {"LIST", "LARGE", "END", "SHORT", "FORM", "REFUSED", "WHY", "END_WHY"};
     static struct vectors vectors = {.draw = {0x5eed}};
 
     if (!read_arguments(&vectors, count, arguments))

@@ -1,5 +1,5 @@
-/* The forms of command words as document 004 draws them, for the self-test and the vectors. The model does
- * without them, so that the two are two readings of the same forms. */
+/* The forms of command words as document 004 draws them, and words that are reserved, for the self-test and
+ * the vectors. The model does without them, so that the two are two readings of the same forms. */
 #ifndef MODEL_PATTERN_H
 #define MODEL_PATTERN_H
 
@@ -61,6 +61,44 @@ static inline uint32_t draw_form(struct draw *draw, const char *pattern)
     uint32_t fixed = pattern_bits(pattern, '0') | pattern_bits(pattern, '1');
 
     return (draw_number(draw) & ~fixed) | pattern_bits(pattern, '1');
+}
+
+/* Whether words can have a why at a setting that is not refused. Of forms that the other mode has, each mode
+ * lacks some. */
+static inline bool why_fits(struct setting setting, uint32_t why)
+{
+    switch (why) {
+    case WHY_LEVEL:
+        return setting.level < 3;
+    case WHY_SLI:
+        return setting.level >= 3 && !setting.sli;
+    default:
+        return true;
+    }
+}
+
+/* A word that is reserved for a why that the setting has: of no form, and mostly one bit off a form, or of a
+ * form that may not be used there. */
+static inline uint32_t draw_reserved(struct draw *draw, struct setting setting, uint32_t why)
+{
+    uint32_t word;
+
+    do {
+        word = draw_form(draw, patterns[draw_below(draw, PATTERNS)]);
+        if (why == WHY_FORM)
+            word = draw_once_in(draw, 4) ? draw_word(draw) : word ^ UINT32_C(1) << draw_below(draw, 32);
+    } while (model_read(setting, word, 0).why != why);
+    return word;
+}
+
+/* One of the whys that a setting has. */
+static inline uint32_t draw_why(struct draw *draw, struct setting setting)
+{
+    uint32_t why = WHY_FORM + draw_below(draw, WHY_COUNT - WHY_FORM);
+
+    while (!why_fits(setting, why))
+        why = WHY_FORM + draw_below(draw, WHY_COUNT - WHY_FORM);
+    return why;
 }
 
 #endif

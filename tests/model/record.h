@@ -48,7 +48,8 @@
     NUMBER(PULLER_ERROR, puller_error)             \
     WIDE(SEMAPHORE_ADDRESS, semaphore_address)     \
     NUMBER(SEMAPHORE_SEQUENCE, semaphore_sequence) \
-    NUMBER(ACQUIRE_MODE, acquire_mode)
+    NUMBER(ACQUIRE_MODE, acquire_mode)             \
+    NUMBER(PUSHER_WHY, pusher_why)
 
 /* The place of each number's word, or of the lower of its two. */
 #define NUMBER_PLACE(name, field) AT_##name,

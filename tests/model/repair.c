@@ -228,9 +228,11 @@ uint64_t model_repair_number(struct outcome outcome)
 }
 
 /* W19: what stands above the reading's number, by the places that the values have in a reading. */
-static uint64_t values_number(const uint32_t *value, uint32_t number)
+static uint64_t values_number(struct reading reading)
 {
-    switch (number) {
+    const uint32_t *value = reading.value;
+
+    switch (reading.number) {
     case READING_INCREASING:
     case READING_NON_INCREASING:
         return (uint64_t)value[0] << 40 | (uint64_t)value[1] << 37 | (uint64_t)value[2] << 24;
@@ -243,6 +245,8 @@ static uint64_t values_number(const uint32_t *value, uint32_t number)
         return (uint64_t)value[0] << 32;
     case READING_REFUSED:
         return (uint64_t)value[0] << 8;
+    case READING_RESERVED:
+        return (uint64_t)reading.why << 16;
     default:
         return 0;
     }
@@ -253,5 +257,5 @@ uint64_t model_reading_number(uint32_t level, uint32_t mode, uint32_t sli, uint3
 {
     struct reading reading = model_read((struct setting){level, mode, sli != 0}, word, next);
 
-    return values_number(reading.value, reading.number) | reading.number;
+    return values_number(reading) | reading.number;
 }

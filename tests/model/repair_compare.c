@@ -19,7 +19,7 @@ enum { FEWEST = 200 };
 
 const char comparison[] = "repair compare";
 
-/* The header's numbers are the model's. */
+/* The header's numbers are the model's, and it leaves out no why. */
 #define SAME_NUMBER(header, model) _Static_assert((int)(header) == (int)(model), #header " is " #model)
 SAME_NUMBER(UPBORLIYA_REFUSAL_MODE, REFUSAL_MODE);
 SAME_NUMBER(UPBORLIYA_REFUSAL_ROOM, REFUSAL_ROOM);
@@ -33,6 +33,12 @@ SAME_NUMBER(UPBORLIYA_FORM_JUMP, READING_JUMP);
 SAME_NUMBER(UPBORLIYA_FORM_CALL, READING_CALL);
 SAME_NUMBER(UPBORLIYA_FORM_RESERVED, READING_RESERVED);
 SAME_NUMBER(UPBORLIYA_FORM_REFUSED, READING_REFUSED);
+SAME_NUMBER(UPBORLIYA_WHY_NONE, WHY_NONE);
+SAME_NUMBER(UPBORLIYA_WHY_FORM, WHY_FORM);
+SAME_NUMBER(UPBORLIYA_WHY_LEVEL, WHY_LEVEL);
+SAME_NUMBER(UPBORLIYA_WHY_MODE, WHY_MODE);
+SAME_NUMBER(UPBORLIYA_WHY_SLI, WHY_SLI);
+SAME_NUMBER(UPBORLIYA_WHY_SLI + 1, WHY_COUNT);
 
 /* The most entries of the two rooms. */
 enum { LIST_ROOM = REPAIR_LIMIT + 64, WORK_ROOM = 2 * LIST_ROOM };
@@ -73,6 +79,7 @@ static struct {
     unsigned long bad;
     unsigned long vast;
     unsigned long readings[READING_PAST];
+    unsigned long whys[WHY_COUNT];
 } counts;
 
 /* ---- Differences ---- */
@@ -205,13 +212,13 @@ static void compare_written(void)
         fail("nothing before map or rooms is written");
 }
 
-/* H13, H18: the answer and the list by the header's functions. */
+/* H13, H18: the answer and the list by the header's functions. The repair says no why. */
 static void compare_parts(void)
 {
     uint32_t place = 0;
 
     if (upborliya_refusal(archive.answer) != model.outcome.refusal ||
-        upborliya_count(archive.answer) != model.outcome.count)
+        upborliya_count(archive.answer) != model.outcome.count || upborliya_why(archive.answer) != WHY_NONE)
         fail("the header takes the answer apart");
     for (uint32_t i = 0; i < model.outcome.count; i++, place++) {
         while (given.map[place] == model.map[place])
@@ -506,10 +513,10 @@ static void test_vast_rooms(struct draw *draw)
 
 /* ---- Readings ---- */
 
-/* W19: the parts of a number, by the header's functions, in the order that a reading's values have. */
+/* W19, W24: the parts of a number, by the header's functions, in the order that a reading's values have. */
 static struct reading unpack(upborliya_reading number)
 {
-    struct reading reading = {upborliya_form(number), {0, 0, 0}};
+    struct reading reading = {upborliya_form(number), {0, 0, 0}, upborliya_reading_why(number)};
 
     switch (reading.number) {
     case READING_INCREASING:
@@ -548,6 +555,7 @@ static void compare_reading(uint32_t level, uint32_t mode, uint32_t sli, uint32_
 
     if (number == wanted && memcmp(&reading, &parts, sizeof parts) == 0) {
         counts.readings[parts.number]++;
+        counts.whys[parts.why]++;
         return;
     }
     fprintf(stderr, "%s: failed: the archive reads as the model\n", comparison);
@@ -558,7 +566,7 @@ static void compare_reading(uint32_t level, uint32_t mode, uint32_t sli, uint32_
     exit(1);
 }
 
-/* W1 to W8, W10 to W14, W19: words of every form and others, at settings of which some are refused. */
+/* W1 to W8, W10 to W14, W19 to W24: words of every form and others, at settings of which some are refused. */
 static void test_readings(struct draw *draw)
 {
     static const uint32_t levels[] = {0, 1, 2, 3, 4, 5, 6, 256, UINT32_MAX};
@@ -595,6 +603,9 @@ static void print_summary(void)
     printf("\nreadings:");
     for (unsigned i = READING_INCREASING; i <= READING_REFUSED; i++)
         printf(" %u=%lu", i, counts.readings[i]);
+    printf("\nwhys:");
+    for (unsigned i = WHY_FORM; i <= WHY_SLI; i++)
+        printf(" %u=%lu", i, counts.whys[i]);
     putchar('\n');
 }
 
@@ -608,6 +619,8 @@ static void test_counts(void)
     check(counts.refusals[REFUSAL_SIZE] >= 50, "so is that of the size");
     for (unsigned i = READING_INCREASING; i <= READING_REFUSED; i++)
         check(counts.readings[i] >= FEWEST, "each reading is given often enough");
+    for (unsigned i = WHY_FORM; i <= WHY_SLI; i++)
+        check(counts.whys[i] >= FEWEST, "each why is given often enough");
     check(counts.accepted >= FEWEST && counts.bad >= FEWEST, "repaired maps are accepted and not");
 }
 

@@ -1008,7 +1008,7 @@ static void test_repair_numbers(void)
     check(model_repair_number((struct outcome){1, 0}) == 0x100, "LEVEL");
 }
 
-/* W19: the rule book's words to try, and words with every field full. */
+/* W19, W20, W21, W22, W23, W24: the rule book's words to try, and words with every field full. */
 static void test_reading_rows(void)
 {
     static const struct {
@@ -1022,12 +1022,20 @@ static void test_reading_rows(void)
         {3, 0, 1, 0x00000000, 0, 0x1},
         {3, 0, 1, 0x00082180, 0, UINT64_C(0x0000022180000001)},
         {3, 0, 1, 0x400cfffc, 9, UINT64_C(0x000003fffc000002)},
-        {0, 0, 0, 0x400cfffc, 9, 0x9},
+        {0, 0, 0, 0x400cfffc, 9, 0x20009},
         {3, 0, 7, 0x00010050, 9, UINT64_C(0x0000000500000003)},
-        {3, 0, 0, 0x00010050, 9, 0x9},
+        {3, 0, 0, 0x00010050, 9, 0x40009},
+        {2, 0, 0, 0x00010050, 9, 0x20009},
+        {4, 1, 0, 0x00010050, 9, 0x40009},
         {3, 0, 1, 0x00020000, 9, 0x4},
-        {3, 0, 1, 0x00020004, 9, 0x9},
-        {3, 0, 1, 0x00000003, 9, 0x9},
+        {1, 0, 0, 0x00020000, 9, 0x20009},
+        {5, 1, 1, 0x00020000, 9, 0x30009},
+        {3, 0, 1, 0x00020004, 9, 0x10009},
+        {3, 0, 1, 0x00000003, 9, 0x10009},
+        {5, 1, 0, UINT32_MAX, UINT32_MAX, 0x10009},
+        {0, 0, 0, 0x00034100, 9, 0x30009},
+        {5, 0, 1, 0x0003fffc, UINT32_MAX, 0x30009},
+        {4, 1, 0, 0x3ffffffc, 9, 0x30009},
         {3, 0, 1, 0x3ffffffc, 9, UINT64_C(0x1ffffffc00000006)},
         {3, 0, 1, 0x00002002, 9, UINT64_C(0x0000200000000008)},
         {2, 0, 0, 0x00010001, 9, UINT64_C(0x0001000000000007)},
@@ -1079,8 +1087,17 @@ static uint64_t number_by_pattern(unsigned form, uint32_t word, uint32_t next)
            count * (UINT64_C(1) << 40);
 }
 
-/* W11, W12, W13, W19: words of every form at any setting; what is no command is its number, and the refusal
- * in the byte above. */
+/* W21, W22, W23: why a form is reserved at a setting that is not refused. What is neither the mode's nor
+ * SLI's is the level's; an SLI conditional is SLI's only from its own level on. */
+static uint32_t why_of_form(struct setting setting, unsigned form)
+{
+    if (form == READING_LONG || (setting.mode == MODE_IB && form != READING_SLI))
+        return 3;
+    return form == READING_SLI && setting.level >= 3 ? 4 : 2;
+}
+
+/* W11, W12, W13, W19, W24: words of every form at any setting; what is no command is its number, with the
+ * refusal in the byte above, or the why in the next. */
 static void test_reading_forms(struct draw *draw)
 {
     for (unsigned i = 0; i < 60000; i++) {
@@ -1096,7 +1113,7 @@ static void test_reading_forms(struct draw *draw)
         if (reading.number == READING_REFUSED)
             check(number == 10 + 256 * model_setting_refusal(setting), "a refused reading for C");
         else if (reading.number == READING_RESERVED)
-            check(number == 9, "a reserved reading for C");
+            check(number == 9 + 65536 * why_of_form(setting, form), "a reserved reading for C");
         else
             check(number == number_by_pattern(form, word, next), "a form's reading for C");
     }

@@ -21,6 +21,16 @@ const char *model_kind_name(uint32_t kind)
     return names[kind];
 }
 
+/* T11: the names of the whys. */
+const char *model_why_name(uint32_t why)
+{
+    static const char *const names[] = {
+        [WHY_FORM] = "FORM", [WHY_LEVEL] = "LEVEL", [WHY_MODE] = "MODE", [WHY_SLI] = "SLI"};
+
+    _Static_assert(sizeof names / sizeof names[0] == WHY_COUNT, "every why has a name");
+    return names[why];
+}
+
 /* T8, T9: the names of the causes, where there are two the pusher's. */
 const char *model_cause_name(uint32_t pusher_error, uint32_t puller_error)
 {
@@ -51,14 +61,23 @@ void model_trace_step(FILE *out, uint32_t step, uint64_t get, struct answer answ
     fputc('\n', out);
 }
 
+/* T7: the part that an error alone has: its cause, and behind RESERVED_CMD its why. */
+static void print_cause(FILE *out, const struct channel *channel)
+{
+    fprintf(out, " cause=%s", model_cause_name(channel->pusher_error, channel->puller_error));
+    if (channel->pusher_error == PUSHER_RESERVED_CMD)
+        fprintf(out, " why=%s", model_why_name(channel->pusher_why));
+}
+
 /* T7, T10: the last line. */
 void model_trace_end(FILE *out, uint32_t end, uint32_t steps, const struct channel *channel)
 {
-    /* T7: an error alone has a cause. */
+    static const char *const names[] = {
+        [ENDED_IDLE] = "idle", [ENDED_BUDGET] = "budget", [ENDED_ERROR] = "error"};
+
+    fprintf(out, "end=%s", names[end]);
     if (end == ENDED_ERROR)
-        fprintf(out, "end=error cause=%s", model_cause_name(channel->pusher_error, channel->puller_error));
-    else
-        fprintf(out, "end=%s", end == ENDED_IDLE ? "idle" : "budget");
+        print_cause(out, channel);
     fprintf(out, " steps=%" PRIu32 " get=%" PRIu64 " ref=%" PRIu32 "\n", steps, channel->get, channel->ref);
 }
 
@@ -119,6 +138,7 @@ static struct traced trace_words(FILE *out, const uint32_t *words, size_t count)
     }
     traced.end = end_of(&channel, &lent);
     traced.pusher_error = channel.pusher_error;
+    traced.pusher_why = channel.pusher_why;
     traced.puller_error = channel.puller_error;
     model_trace_end(out, traced.end, steps, &channel);
     return traced;

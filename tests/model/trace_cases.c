@@ -3,6 +3,7 @@
  *   CASES    all cases, by the end: idle, budget, error or refused
  *   REFUSED  the refused ones, by the refusal
  *   CAUSE    those with an error, by what stopped the channel
+ *   WHY      those that a reserved word stopped, by its why
  *   KIND     the steps of all cases, by their kind */
 #include <string.h>
 
@@ -51,6 +52,7 @@ struct cases {
     bool failed;
     unsigned long ends[ENDED_ERROR + 1];
     unsigned long pusher_errors[PUSHER_PROTECTION + 1];
+    unsigned long whys[WHY_COUNT];
     unsigned long puller_errors[PULLER_SEMAPHORE_4 + 1];
     unsigned long kinds[KIND_LAST + 1];
 };
@@ -101,6 +103,7 @@ static void count_case(struct cases *cases, const struct traced *traced)
 {
     cases->ends[traced->end]++;
     cases->pusher_errors[traced->pusher_error]++;
+    cases->whys[traced->pusher_why]++;
     cases->puller_errors[traced->puller_error]++;
     for (unsigned kind = 0; kind <= KIND_LAST; kind++)
         cases->kinds[kind] += traced->kinds[kind];
@@ -147,6 +150,9 @@ static void print_counts(const struct cases *cases)
         print_count(model_cause_name(error, 0), cases->pusher_errors[error]);
     for (uint32_t error = 1; error <= PULLER_SEMAPHORE_4; error++)
         print_count(model_cause_name(0, error), cases->puller_errors[error]);
+    printf("\nWHY %lu:", sum(cases->whys, WHY_SLI));
+    for (uint32_t why = WHY_FORM; why <= WHY_SLI; why++)
+        print_count(model_why_name(why), cases->whys[why]);
     printf("\nKIND %lu:", sum(cases->kinds, KIND_LAST));
     for (uint32_t kind = 1; kind <= KIND_LAST; kind++)
         print_count(model_kind_name(kind), cases->kinds[kind]);
@@ -157,7 +163,7 @@ static void print_counts(const struct cases *cases)
 
 enum { ROW_WORDS = 8 };
 
-/* T1, T3, T4, T5, T7, T8: every kind and every cause that the program can come to. */
+/* T1, T3, T4, T5, T7, T8, T11: every kind, every cause and every why that the program can come to. */
 static const struct row {
     const char *name;
     uint32_t count;
@@ -194,10 +200,25 @@ static const struct row {
     {"return-main", 2, {0x00020000, 0}},
     {"return-twice", 5, {0x0000000a, 0x00020000, 0x00040050, 1, 0x00020000}},
     {"reserved-low-bits", 2, {0x00000000, 0xffffffff}},
-    {"reserved-sli-off", 1, {0x00010050}},
-    {"reserved-long", 2, {0x00034100, 0x00000001}},
+    {"reserved-printed", 1, {0x00000003}},
     {"reserved-return", 1, {0x00020004}},
     {"reserved-upper", 3, {0x00040050, 4, 0x80000000}},
+    {"reserved-nearly-sli", 2, {0x00000000, 0x00010058}},
+    {"reserved-nearly-long", 1, {0x00070000}},
+
+    /* W22, W23: the same by the mode, and by SLI, which is off. */
+    {"reserved-long", 2, {0x00034100, 0x00000001}},
+    {"reserved-long-zero", 1, {0x00030000}},
+    {"reserved-long-full", 3, {0x00040050, 5, 0x0003fffc}},
+    {"reserved-long-inside", 4, {0x0000000a, 0x00000000, 0x00000000, 0x0003e050}},
+    {"reserved-long-behind-jump", 3, {0x20000008, 0x00000003, 0x00038004}},
+    {"reserved-sli-off", 1, {0x00010050}},
+    {"reserved-sli-none", 2, {0x00000000, 0x00010000}},
+    {"reserved-sli-all", 3, {0x40040080, 1, 0x0001fff0}},
+    {"reserved-sli-inside", 3, {0x0000000a, 0x00000003, 0x00010010}},
+    {"reserved-sli-behind-jump", 3, {0x20000008, 0x00000003, 0x00018000}},
+
+    /* What stops the pusher where there is no word to read. */
     {"protection-jump", 1, {0x00000009}},
     {"protection-top", 3, {0x00040050, 2, 0xfffffffd}},
     {"protection-misread", 1, {0x00010001}},

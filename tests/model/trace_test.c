@@ -11,6 +11,8 @@
  * Causes: CALL, NON_CACHE, RETURN, RESERVED_CMD, PROTECTION, NO_HASH, EMPTY_SUBCHANNEL, SEMAPHORE_1 (by 0x64
  * alone) and SEMAPHORE_2 (unbound). IB is IB mode's, SEMAPHORE_3 and SEMAPHORE_4 are those of level 4 up.
  *
+ * Whys: FORM, MODE of the long form alone, and SLI. Level 3 is below no form's level.
+ *
  * A run from 0x1ffc never gets to method 0, as its first parameter finds an empty subchannel. The lines that
  * no run has are asked for one by one. */
 #include <inttypes.h>
@@ -162,7 +164,8 @@ struct row {
     const char *text;
 };
 
-/* T1, T3, T4, T5, T7, T8, T10: each kind and each cause that the program can come to, with its lines. */
+/* T1, T3, T4, T5, T7, T8, T10, T11: each kind, each cause and each why that the program can come to, with its
+ * lines. */
 static const struct row rows[] = {
     {"the printed example", 2, {0x00040050, 0x00000007},
      "step=1 get=0 kind=command\n"
@@ -283,17 +286,34 @@ static const struct row rows[] = {
      "end=error cause=RETURN steps=5 get=8 ref=1\n"},
     {"RESERVED_CMD", 1, {0x00000003},
      "step=1 get=0 kind=error\n"
-     "end=error cause=RESERVED_CMD steps=1 get=4 ref=0\n"},
+     "end=error cause=RESERVED_CMD why=FORM steps=1 get=4 ref=0\n"},
     {"RESERVED_CMD: SLI off", 2, {0x00000000, 0x00010050},
      "step=1 get=0 kind=command\n"
      "step=2 get=4 kind=error\n"
-     "end=error cause=RESERVED_CMD steps=2 get=8 ref=0\n"},
+     "end=error cause=RESERVED_CMD why=SLI steps=2 get=8 ref=0\n"},
     {"RESERVED_CMD: a long form in NV04-style", 2, {0x00034100, 0x00000001},
      "step=1 get=0 kind=error\n"
-     "end=error cause=RESERVED_CMD steps=1 get=4 ref=0\n"},
+     "end=error cause=RESERVED_CMD why=MODE steps=1 get=4 ref=0\n"},
     {"RESERVED_CMD: 0x00020004", 1, {0x00020004},
      "step=1 get=0 kind=error\n"
-     "end=error cause=RESERVED_CMD steps=1 get=4 ref=0\n"},
+     "end=error cause=RESERVED_CMD why=FORM steps=1 get=4 ref=0\n"},
+    {"RESERVED_CMD: nearly a conditional", 1, {0x00010054},
+     "step=1 get=0 kind=error\n"
+     "end=error cause=RESERVED_CMD why=FORM steps=1 get=4 ref=0\n"},
+    {"RESERVED_CMD: nearly a long form", 1, {0x00070000},
+     "step=1 get=0 kind=error\n"
+     "end=error cause=RESERVED_CMD why=FORM steps=1 get=4 ref=0\n"},
+    {"RESERVED_CMD inside a subroutine, after a ref", 5, {0x0000000a, 0, 0x00040050, 9, 0x0003fffc},
+     "step=1 get=0 kind=command\n"
+     "step=2 get=8 kind=command\n"
+     "step=3 get=12 kind=ref subc=0 mthd=80 param=9\n"
+     "step=4 get=16 kind=error\n"
+     "end=error cause=RESERVED_CMD why=MODE steps=4 get=20 ref=9\n"},
+    {"a parameter that would be reserved has no why", 3, {0x00040050, 0x00000003, 0x00010050},
+     "step=1 get=0 kind=command\n"
+     "step=2 get=4 kind=ref subc=0 mthd=80 param=3\n"
+     "step=3 get=8 kind=error\n"
+     "end=error cause=RESERVED_CMD why=SLI steps=3 get=12 ref=3\n"},
     {"PROTECTION one word past the end", 1, {0x00000009},
      "step=1 get=0 kind=command\n"
      "step=2 get=8 kind=error\n"
@@ -498,7 +518,7 @@ static void test_last_step(void)
     give_long_run(15, 0x00000003);
     want_long_run(15, 15);
     want("step=65536 get=16440 kind=error\n");
-    want("end=error cause=RESERVED_CMD steps=65536 get=16444 ref=0\n");
+    want("end=error cause=RESERVED_CMD why=FORM steps=65536 get=16444 ref=0\n");
     prints_wanted("an error at step 65,536");
 
     give_long_run(16, 0x00000003);
@@ -543,23 +563,33 @@ static void test_lines(void)
     }
 }
 
-/* T7, T8, T9: the other causes, and the one that is told of two. */
+/* T7, T8, T9, T11: the other causes, the whys, of which no run has LEVEL, and the one cause that is told of
+ * two, with its why where it has one. */
 static const struct {
     uint32_t pusher_error;
+    uint32_t pusher_why;
     uint32_t puller_error;
     const char *text;
 } ends[] = {
-    {PUSHER_IB, 0, "end=error cause=IB steps=3 get=16 ref=5\n"},
-    {0, PULLER_SEMAPHORE_3, "end=error cause=SEMAPHORE_3 steps=3 get=16 ref=5\n"},
-    {0, PULLER_SEMAPHORE_4, "end=error cause=SEMAPHORE_4 steps=3 get=16 ref=5\n"},
-    {PUSHER_CALL, PULLER_NO_HASH, "end=error cause=CALL steps=3 get=16 ref=5\n"},
+    {PUSHER_IB, 0, 0, "end=error cause=IB steps=3 get=16 ref=5\n"},
+    {0, 0, PULLER_SEMAPHORE_3, "end=error cause=SEMAPHORE_3 steps=3 get=16 ref=5\n"},
+    {0, 0, PULLER_SEMAPHORE_4, "end=error cause=SEMAPHORE_4 steps=3 get=16 ref=5\n"},
+    {PUSHER_CALL, 0, PULLER_NO_HASH, "end=error cause=CALL steps=3 get=16 ref=5\n"},
+    {PUSHER_RESERVED_CMD, 1, 0, "end=error cause=RESERVED_CMD why=FORM steps=3 get=16 ref=5\n"},
+    {PUSHER_RESERVED_CMD, 2, 0, "end=error cause=RESERVED_CMD why=LEVEL steps=3 get=16 ref=5\n"},
+    {PUSHER_RESERVED_CMD, 3, 0, "end=error cause=RESERVED_CMD why=MODE steps=3 get=16 ref=5\n"},
+    {PUSHER_RESERVED_CMD, 4, 0, "end=error cause=RESERVED_CMD why=SLI steps=3 get=16 ref=5\n"},
+    {PUSHER_RESERVED_CMD, 2, 6, "end=error cause=RESERVED_CMD why=LEVEL steps=3 get=16 ref=5\n"},
 };
 
 static void test_ends(void)
 {
     for (size_t i = 0; i < sizeof ends / sizeof ends[0]; i++) {
-        struct channel channel = {
-            .get = 16, .ref = 5, .pusher_error = ends[i].pusher_error, .puller_error = ends[i].puller_error};
+        struct channel channel = {.get = 16,
+                                  .ref = 5,
+                                  .pusher_error = ends[i].pusher_error,
+                                  .pusher_why = ends[i].pusher_why,
+                                  .puller_error = ends[i].puller_error};
         FILE *out = start_text();
 
         model_trace_end(out, ENDED_ERROR, 3, &channel);
@@ -584,6 +614,7 @@ struct simple {
     bool inside;
     uint32_t back;
     const char *cause;
+    const char *why;
 };
 
 /* W17, S9: the word at an address, its lowest byte first. */
@@ -660,6 +691,19 @@ static void simple_run(struct simple *simple, uint32_t word)
     simple->rise = (word & 0x40000000) == 0 ? 4 : 0;
 }
 
+/* W22, W23, S33: a reserved word, which is that of a form only where it would be a long form or an SLI
+ * conditional. */
+static void simple_reserved(struct simple *simple, uint32_t word)
+{
+    simple->cause = "RESERVED_CMD";
+    if (word / 0x10000 == 3 && word % 4 == 0)
+        simple->why = "MODE";
+    else if (word / 0x10000 == 1 && word % 16 == 0)
+        simple->why = "SLI";
+    else
+        simple->why = "FORM";
+}
+
 /* S20, S21, S22, S23: a command; the read address is past its word. */
 static void simple_command(struct simple *simple, uint32_t word)
 {
@@ -676,7 +720,7 @@ static void simple_command(struct simple *simple, uint32_t word)
     else if ((word & 0xa0030003) == 0)
         simple_run(simple, word);
     else
-        simple->cause = "RESERVED_CMD";
+        simple_reserved(simple, word);
 }
 
 /* S10, S11, S14, S25, T3, T4: one step and its line. */
@@ -710,7 +754,7 @@ static void simple_step(struct simple *simple, uint32_t step)
              word);
 }
 
-/* T1, T6, T7: the text of a whole run. */
+/* T1, T6, T7, T11: the text of a whole run. */
 static void want_second_reading(void)
 {
     struct simple simple = {0};
@@ -723,6 +767,8 @@ static void want_second_reading(void)
         want("end=error cause=%s", simple.cause);
     else
         want(simple.get == input_length ? "end=idle" : "end=budget");
+    if (simple.why != NULL)
+        want(" why=%s", simple.why);
     want(" steps=%" PRIu32 " get=%" PRIu32 " ref=%" PRIu32 "\n", step, simple.get, simple.ref);
 }
 
@@ -758,7 +804,7 @@ static uint32_t draw_word_at(struct draw *draw, uint32_t place)
     }
 }
 
-/* What the comment at the head says of kinds and causes, and the second reading. */
+/* T11: what the comment at the head says of kinds, causes and whys, and the second reading. */
 static void test_drawn(struct draw *draw)
 {
     static const uint32_t reached[] = {KIND_COMMAND, KIND_REF, KIND_EVENT, KIND_OFFSET, KIND_ERROR};
@@ -776,6 +822,7 @@ static void test_drawn(struct draw *draw)
         check(traced.kinds[kind] == 0, "no other kinds");
     check(traced.pusher_error != PUSHER_IB, "no other causes");
     check(traced.puller_error <= PULLER_SEMAPHORE_2, "no other causes");
+    check(traced.pusher_why != WHY_LEVEL, "no other whys");
 }
 
 /* ---- The program ---- */

@@ -75,40 +75,55 @@ static uint32_t form(uint32_t word)
     }
 }
 
-/* W11: whether a command may be used at a setting that is not refused. */
-static bool available(struct setting setting, uint32_t number)
+/* W4, W7, W8, W11, W21, W22: return, jump and call ask for level 2 and for NV04-style, in that order. */
+static uint32_t why_no_flow(struct setting setting)
+{
+    if (setting.level < 2)
+        return WHY_LEVEL;
+    return setting.mode == MODE_NV04 ? WHY_NONE : WHY_MODE;
+}
+
+/* W3, W11, W21, W23: the SLI conditional asks for level 3, and only from there on for SLI. */
+static uint32_t why_no_conditional(struct setting setting)
+{
+    if (setting.level < 3)
+        return WHY_LEVEL;
+    return setting.sli ? WHY_NONE : WHY_SLI;
+}
+
+/* W11, W24, X6: why a command may not be used at a setting that is not refused; WHY_NONE where it may. */
+static uint32_t why_not(struct setting setting, uint32_t number)
 {
     bool nv04 = setting.mode == MODE_NV04;
 
     switch (number) {
     case READING_INCREASING:
-        return true;
+        return WHY_NONE;
     case READING_NON_INCREASING:
-        /* W2: from level 1 on. */
-        return setting.level >= 1;
+        /* W2, W21: from level 1 on. */
+        return setting.level >= 1 ? WHY_NONE : WHY_LEVEL;
     case READING_SLI:
-        /* W3: from level 3 on, with SLI on. */
-        return setting.level >= 3 && setting.sli;
+        return why_no_conditional(setting);
     case READING_LONG:
-        /* W5: in IB mode alone. */
-        return !nv04;
+        /* W5, W21, W22: in IB mode alone. That a low level has no such mode is no matter of the form. */
+        return nv04 ? WHY_MODE : WHY_NONE;
     case READING_OLD_JUMP:
-        /* W6: in NV04-style alone. */
-        return nv04;
+        /* W6, W22: in NV04-style alone. */
+        return nv04 ? WHY_NONE : WHY_MODE;
     case READING_RETURN:
     case READING_JUMP:
     case READING_CALL:
-        /* W4, W7, W8: in NV04-style alone, from level 2 on. */
-        return nv04 && setting.level >= 2;
+        return why_no_flow(setting);
     default:
-        /* W12, X5: reserved words and readings that are refusals are no commands. */
-        return false;
+        /* W12, W20, X5, X6: reserved words and readings that are refusals are no commands, whatever why they
+         * may have brought. */
+        return WHY_FORM;
     }
 }
 
 static struct reading reading(uint32_t number, uint32_t value0, uint32_t value1, uint32_t value2)
 {
-    return (struct reading){number, {value0, value1, value2}};
+    return (struct reading){number, {value0, value1, value2}, WHY_NONE};
 }
 
 /* W1, W2, W3, W4, W5, W6, W7, W8, W9: the reading of a word that has the form `number`. */
@@ -142,13 +157,14 @@ static struct reading take_apart(uint32_t number, uint32_t word, uint32_t next)
     }
 }
 
-/* W12: the reading at a setting that is not refused, where a form that may not be used is reserved. */
+/* W12, W24: the reading at a setting that is not refused, where a form that may not be used is reserved. */
 static struct reading read_accepted(struct setting setting, uint32_t word, uint32_t next)
 {
     uint32_t number = form(word);
+    uint32_t why = why_not(setting, number);
 
-    if (!available(setting, number))
-        return reading(READING_RESERVED, 0, 0, 0);
+    if (why != WHY_NONE)
+        return (struct reading){READING_RESERVED, {0, 0, 0}, why};
     return take_apart(number, word, next);
 }
 
@@ -225,7 +241,7 @@ static uint32_t write_refusal(struct setting setting, struct reading command, ui
     if (!fields_fit(command))
         return REFUSAL_FIELD;
     /* R12: not at this setting, or no command at all. */
-    if (!available(setting, command.number))
+    if (why_not(setting, command.number) != WHY_NONE)
         return REFUSAL_FORM;
     /* R11: no room for the words. */
     if (room < count)
@@ -265,15 +281,16 @@ struct written model_write(struct setting setting, struct reading command, uint3
     /* X1, X2: a long form has its count word too; parameters are not written. */
     uint32_t count = command.number == READING_LONG ? 2 : 1;
     uint32_t refusal = write_refusal(setting, command, count, room);
+    uint32_t why = refusal == REFUSAL_FORM ? why_not(setting, command.number) : WHY_NONE;
 
-    /* R31: with a refusal the output stays. */
+    /* R31, X6: with a refusal the output stays. No other than FORM says why, also where FORM would apply. */
     if (refusal != REFUSAL_NONE)
-        return (struct written){refusal, 0};
+        return (struct written){refusal, 0, why};
     out[0] = put_together(command);
     /* X1, X3: the count fits 24 bits, so that 0 stands above it. */
     if (count == 2)
         out[1] = command.value[2];
-    return (struct written){REFUSAL_NONE, count};
+    return (struct written){REFUSAL_NONE, count, WHY_NONE};
 }
 
 /* W18: whether a level has a method. The numbers here are byte numbers; that of a large number has more than

@@ -49,6 +49,10 @@ enum {
     READING_PAST = 11
 };
 
+/* W20, W21, W22, W23, W24: why a word is reserved, by number, in the order in which they are tried; 0 stands
+ * for none. */
+enum { WHY_NONE = 0, WHY_FORM = 1, WHY_LEVEL = 2, WHY_MODE = 3, WHY_SLI = 4, WHY_COUNT };
+
 struct setting {
     uint32_t level;
     uint32_t mode;
@@ -57,16 +61,20 @@ struct setting {
 
 /* A reading's number and its values; values that a reading doesn't use are 0.
  * Increasing, non-increasing: count, subchannel, method. SLI conditional: mask. Long: subchannel, method,
- * count. Jumps and call: target. Refused: the refusal's number. Methods and targets are byte numbers. */
+ * count. Jumps and call: target. Refused: the refusal's number. Methods and targets are byte numbers.
+ * Reserved: no value, but the why, which is 0 of any other. */
 struct reading {
     uint32_t number;
     uint32_t value[3];
+    uint32_t why;
 };
 
-/* The writer's answer: REFUSAL_NONE and the count of words written, or a refusal and 0. */
+/* X6: the writer's answer: REFUSAL_NONE and the count of words written, or a refusal and 0. FORM alone has a
+ * why. */
 struct written {
     uint32_t refusal;
     uint32_t count;
+    uint32_t why;
 };
 
 /* R22: the first of LEVEL, MODE and SLI that a setting meets, or none. */
@@ -78,7 +86,8 @@ struct reading model_read(struct setting setting, uint32_t word, uint32_t next);
 /* Reads the word at a place of the lent words. Where no word follows it, the next word counts as 0. */
 struct reading model_read_at(struct setting setting, const uint32_t *words, size_t count, uint64_t place);
 
-/* Writes a command into an output of `room` words. Values that the command doesn't use are not looked at. */
+/* Writes a command into an output of `room` words. Values that the command doesn't use are not looked at, nor
+ * is the why of what is none. */
 struct written model_write(struct setting setting, struct reading command, uint32_t *out, size_t room);
 
 /* W18: whether a level has a method, given by its number, a fourth of its byte number; a level above 5 counts

@@ -1,17 +1,34 @@
 /* Writes the vectors of words to standard output: questions and the model's answers, as little-endian words.
  * A record starts with its kind:
- *   1 READ     level, mode, SLI, word, next | number, three values
- *   2 READ_AT  level, mode, SLI, words lent, place (low, high), the first four words | number, three values
- *   3 WRITE    level, mode, SLI, number, three values, room | refusal, count, the four words of the output
+ *   1 READ     level, mode, SLI, word, next | number, three values, why
+ *   2 READ_AT  level, mode, SLI, words lent, place (low, high), the first four words
+ *              | number, three values, why
+ *   3 WRITE    level, mode, SLI, number, three values, the why handed in, room
+ *              | refusal, count, why, the four words of the output
  *   4 PRESENT  level, method | 0 or 1
- * Lent words after the fourth are 0. The four words of an output hold 0xa5a50000 to 0xa5a50003 before; the
- * first `room` of them are lent. With --counts it prints how many records there are of each kind, and how
- * many per answer, instead. */
+ * A why is that of a reserved word, or of FORM, and 0 of anything else; the one handed in is 1 to 4 where the
+ * number is 9, and else 0. Lent words after the fourth are 0. The four words of an output hold 0xa5a50000 to
+ * 0xa5a50003 before; the first `room` of them are lent. With --counts it prints how many records there are of
+ * each kind, and how many per answer, instead. */
 #include "pattern.h"
 #include "vectors.h"
 #include "word.h"
 
-enum { READ = 1, READ_AT = 2, WRITE = 3, PRESENT = 4 };
+/* What is counted: the kinds of record, which stand in the output under these numbers, then what --counts
+ * tells of whys. */
+enum {
+    READ = 1,
+    READ_AT = 2,
+    WRITE = 3,
+    PRESENT = 4,
+    READ_WHY = 5,
+    READ_AT_WHY = 6,
+    LEVEL_FORM = 7,
+    MODE_FORM = 8,
+    WRITE_WHY = 9,
+    HANDED_WHY = 10,
+    FIELD_WHY = 11
+};
 
 /* ---- Settings ---- */
 
@@ -39,13 +56,39 @@ static bool is_accepted(struct setting setting)
 
 /* ---- READ ---- */
 
+/* W12, W21, W22: the form of a word, at whichever setting it is one; READING_RESERVED where it has none. */
+static uint32_t form_of(uint32_t word)
+{
+    uint32_t nv04 = model_read((struct setting){5, MODE_NV04, true}, word, 0).number;
+
+    return nv04 == READING_RESERVED ? model_read((struct setting){5, MODE_IB, true}, word, 0).number : nv04;
+}
+
+/* Counts a why, where there is one. */
+static void count_why(struct vectors *vectors, uint32_t kind, uint32_t why)
+{
+    if (why != WHY_NONE)
+        count_one(vectors, kind, why);
+}
+
+/* W21, W22: counts the form of a word that is reserved by its level or its mode. */
+static void count_form(struct vectors *vectors, uint32_t why, uint32_t word)
+{
+    if (why == WHY_LEVEL)
+        count_one(vectors, LEVEL_FORM, form_of(word));
+    if (why == WHY_MODE)
+        count_one(vectors, MODE_FORM, form_of(word));
+}
+
 static void put_read(struct vectors *vectors, struct setting setting, uint32_t word, uint32_t next)
 {
     struct reading read = model_read(setting, word, next);
-    uint32_t words[] = {setting.level, setting.mode,  setting.sli,   word,         next,
-                        read.number,   read.value[0], read.value[1], read.value[2]};
+    uint32_t words[] = {setting.level, setting.mode,  setting.sli,   word,          next,
+                        read.number,   read.value[0], read.value[1], read.value[2], read.why};
 
     put_record(vectors, READ, words, sizeof words / sizeof words[0], read.number);
+    count_why(vectors, READ_WHY, read.why);
+    count_form(vectors, read.why, word);
 }
 
 /* The next word is drawn. No call here has two drawn arguments, as C leaves open which comes first. */
@@ -116,6 +159,24 @@ static void put_read_numbers(struct vectors *vectors, struct setting setting)
         put_read(vectors, setting, words[i], 3);
 }
 
+/* W20, W21, W22, W23, W24: for each why that the setting has, so many words that are reserved for it. */
+static void put_read_whys(struct vectors *vectors, struct setting setting, unsigned times)
+{
+    for (uint32_t why = WHY_FORM; why <= WHY_SLI; why++)
+        for (unsigned i = 0; i < times && why_fits(setting, why); i++)
+            put_read_any(vectors, setting, draw_reserved(&vectors->draw, setting, why));
+}
+
+/* W3, W21, W23, W24: SLI conditionals with no bit of the mask, with one and with all. Below level 3 two whys
+ * apply to them, and the first is said. */
+static void put_read_conditionals(struct vectors *vectors, struct setting setting)
+{
+    uint32_t masks[] = {0, UINT32_C(1) << draw_below(&vectors->draw, 12), 0xfff};
+
+    for (unsigned i = 0; i < sizeof masks / sizeof masks[0]; i++)
+        put_read_any(vectors, setting, 0x00010000 | masks[i] << 4);
+}
+
 /* R22, W13: words at every setting, refused ones too. */
 static void put_reads(struct vectors *vectors)
 {
@@ -128,7 +189,12 @@ static void put_reads(struct vectors *vectors)
             put_read_limits(vectors, setting_at(i), patterns[j]);
             put_read_neighbours(vectors, setting_at(i), patterns[j]);
         }
-    for (unsigned i = 0; i < 14500; i++) {
+    for (unsigned i = 0; i < GRID; i++)
+        if (is_accepted(setting_at(i))) {
+            put_read_whys(vectors, setting_at(i), 20);
+            put_read_conditionals(vectors, setting_at(i));
+        }
+    for (unsigned i = 0; i < 12900; i++) {
         struct setting setting = draw_setting(&vectors->draw);
 
         put_read_any(vectors, setting, draw_any(&vectors->draw));
@@ -137,26 +203,63 @@ static void put_reads(struct vectors *vectors)
 
 /* ---- READ_AT ---- */
 
-static void put_read_at(struct vectors *vectors, struct setting setting, uint32_t lent, uint64_t place)
+enum { GIVEN = 4 };
+
+/* Asks about a place of words of which these are the first. */
+static void put_read_at_words(struct vectors *vectors, struct setting setting, uint32_t lent, uint64_t place,
+                              const uint32_t *given)
 {
     static uint32_t words[SIZE_LIMIT + 1];
-    uint32_t record[14] = {setting.level, setting.mode,    setting.sli,
+    uint32_t record[15] = {setting.level, setting.mode,    setting.sli,
                            lent,          (uint32_t)place, (uint32_t)(place >> 32)};
     struct reading read;
 
-    /* Words that aren't lent are drawn too: nothing may come of them. Half of all words are long forms, as
-     * they alone look at the next word. */
-    for (unsigned i = 0; i < 4; i++) {
-        bool is_long = draw_below(&vectors->draw, 2) == 0;
-
-        words[i] =
-            is_long ? draw_form(&vectors->draw, patterns[READING_LONG - 1]) : draw_any(&vectors->draw);
-    }
+    memcpy(words, given, GIVEN * sizeof words[0]);
+    memcpy(record + 6, given, GIVEN * sizeof words[0]);
     read = model_read_at(setting, words, lent, place);
-    memcpy(record + 6, words, 4 * sizeof words[0]);
     record[10] = read.number;
     memcpy(record + 11, read.value, sizeof read.value);
+    record[14] = read.why;
     put_record(vectors, READ_AT, record, sizeof record / sizeof record[0], read.number);
+    count_why(vectors, READ_AT_WHY, read.why);
+}
+
+/* Words that aren't lent are drawn too: nothing may come of them. Half of all words are long forms, as they
+ * alone look at the next word. */
+static void draw_words(struct draw *draw, uint32_t *words)
+{
+    for (unsigned i = 0; i < GIVEN; i++) {
+        bool is_long = draw_below(draw, 2) == 0;
+
+        words[i] = is_long ? draw_form(draw, patterns[READING_LONG - 1]) : draw_any(draw);
+    }
+}
+
+static void put_read_at(struct vectors *vectors, struct setting setting, uint32_t lent, uint64_t place)
+{
+    uint32_t words[GIVEN];
+
+    draw_words(&vectors->draw, words);
+    put_read_at_words(vectors, setting, lent, place, words);
+}
+
+/* W16, W24: for each why that the setting has, a word that is reserved for it at each of the first places,
+ * which may be the last lent. */
+static void put_read_at_whys(struct vectors *vectors, struct setting setting)
+{
+    struct draw *draw = &vectors->draw;
+
+    for (unsigned i = 0; i < GIVEN * WHY_SLI; i++) {
+        uint32_t place = i % GIVEN;
+        uint32_t why = WHY_FORM + i / GIVEN;
+        uint32_t words[GIVEN];
+
+        if (!why_fits(setting, why))
+            continue;
+        draw_words(draw, words);
+        words[place] = draw_reserved(draw, setting, why);
+        put_read_at_words(vectors, setting, place + 1 + draw_below(draw, 2), place, words);
+    }
 }
 
 /* W16: places near 0, near the end and far past it. Below two words those near the end wrap to far past. */
@@ -182,9 +285,11 @@ static void put_read_ats(struct vectors *vectors)
         put_read_at(vectors, setting_at(i), SIZE_LIMIT + 1, draw_below(&vectors->draw, 4));
     }
     for (unsigned i = 0; i < GRID; i++)
-        if (is_accepted(setting_at(i)))
+        if (is_accepted(setting_at(i))) {
             for (unsigned j = 0; j < sizeof lents / sizeof lents[0]; j++)
                 put_read_at_places(vectors, setting_at(i), lents[j]);
+            put_read_at_whys(vectors, setting_at(i));
+        }
     for (unsigned i = 0; i < 400; i++) {
         struct setting setting = draw_setting(&vectors->draw);
         uint32_t lent = draw_below(&vectors->draw, 6);
@@ -195,16 +300,37 @@ static void put_read_ats(struct vectors *vectors)
 
 /* ---- WRITE ---- */
 
+/* X4, X6: the why that FORM would have if the fields of a command fit. */
+static uint32_t why_of_form(struct setting setting, struct reading command)
+{
+    uint32_t out[2];
+
+    memset(command.value, 0, sizeof command.value);
+    return model_write(setting, command, out, 2).why;
+}
+
+/* X6: the whys of FORM, those that were handed in and came to FORM, and those that FIELD kept back. */
+static void count_written(struct vectors *vectors, struct setting setting, struct reading command,
+                          struct written written)
+{
+    count_why(vectors, WRITE_WHY, written.why);
+    if (written.refusal == REFUSAL_FORM)
+        count_why(vectors, HANDED_WHY, command.why);
+    if (written.refusal == REFUSAL_FIELD)
+        count_why(vectors, FIELD_WHY, why_of_form(setting, command));
+}
+
 static void put_write(struct vectors *vectors, struct setting setting, struct reading command, uint32_t room)
 {
     uint32_t out[4] = {0xa5a50000, 0xa5a50001, 0xa5a50002, 0xa5a50003};
     struct written written = model_write(setting, command, out, room);
     const uint32_t *value = command.value;
-    uint32_t words[] = {setting.level, setting.mode, setting.sli, command.number,  value[0],
-                        value[1],      value[2],     room,        written.refusal, written.count,
+    uint32_t words[] = {setting.level, setting.mode, setting.sli, command.number,  value[0],      value[1],
+                        value[2],      command.why,  room,        written.refusal, written.count, written.why,
                         out[0],        out[1],       out[2],      out[3]};
 
     put_record(vectors, WRITE, words, sizeof words / sizeof words[0], written.refusal);
+    count_written(vectors, setting, command, written);
 }
 
 /* A field of a command, which takes multiples of the step below the limit. A limit of 0 says that there is
@@ -229,7 +355,7 @@ static const struct field fields[PATTERNS][3] = {
 /* A command whose fields fit, drawn. */
 static struct reading draw_command(struct draw *draw, uint32_t number)
 {
-    struct reading command = {number, {0, 0, 0}};
+    struct reading command = {number, {0, 0, 0}, WHY_NONE};
 
     for (unsigned i = 0; i < 3; i++) {
         struct field field = fields[number - 1][i];
@@ -283,7 +409,7 @@ static void put_write_limits(struct vectors *vectors, struct setting setting, ui
 /* R10, R24: a command with every field too wide, which is FIELD unless the setting is refused. */
 static struct reading wide_command(uint32_t number)
 {
-    struct reading command = {number, {0, 0, 0}};
+    struct reading command = {number, {0, 0, 0}, WHY_NONE};
 
     for (unsigned i = 0; i < 3; i++)
         if (fields[number - 1][i].limit != 0)
@@ -291,19 +417,21 @@ static struct reading wide_command(uint32_t number)
     return command;
 }
 
-/* R12, X5: what is no command, reserved words and the refusals that reading can give. */
+/* R12, X5, X6: what is no command, reserved words, whatever their why, and the refusals that reading can
+ * give. */
 static void put_write_others(struct vectors *vectors, struct setting setting)
 {
     static const uint32_t refusals[] = {REFUSAL_LEVEL, REFUSAL_MODE, REFUSAL_SLI, REFUSAL_SIZE};
     uint32_t refusal = refusals[draw_below(&vectors->draw, 4)];
     uint32_t room = draw_below(&vectors->draw, 5);
 
-    put_write(vectors, setting, (struct reading){READING_RESERVED, {0, 0, 0}}, room);
-    put_write(vectors, setting, (struct reading){READING_REFUSED, {refusal, 0, 0}}, room);
+    for (uint32_t why = WHY_FORM; why <= WHY_SLI; why++)
+        put_write(vectors, setting, (struct reading){READING_RESERVED, {0, 0, 0}, why}, room);
+    put_write(vectors, setting, (struct reading){READING_REFUSED, {refusal, 0, 0}, WHY_NONE}, room);
 }
 
-/* R11, R12, R31, X1, X2: each command that fits with every room, and the limits once more, with other numbers
- * beside them. */
+/* R11, R12, R31, W21, W22, W23, X1, X2, X4, X6: each command that fits with every room, and the limits once
+ * more, with other numbers beside them: so FORM says why, and FIELD before it doesn't. */
 static void put_writes_accepted(struct vectors *vectors, struct setting setting)
 {
     for (uint32_t number = 1; number <= PATTERNS; number++) {
@@ -362,8 +490,13 @@ static void put_presents(struct vectors *vectors)
 
 int main(int count, char **arguments)
 {
-    /* READ and READ_AT are counted by the reading's number, WRITE by the refusal's, PRESENT by 0 or 1. */
-    static const char *const names[] = {"READ", "READ_AT", "WRITE", "PRESENT"};
+    /* READ and READ_AT are counted by the reading's number, WRITE by the refusal's, PRESENT by 0 or 1.
+     * READ_WHY and READ_AT_WHY by the why of a reserved word, LEVEL_FORM and MODE_FORM by the form of one
+     * that is read and wrong by level or mode; WRITE_WHY by FORM's why, HANDED_WHY by the why that came in,
+     * FIELD_WHY by the one that is not told, as FIELD comes before it. */
+    static const char *const names[] = {"READ",      "READ_AT",     "WRITE",      "PRESENT",
+                                        "READ_WHY",  "READ_AT_WHY", "LEVEL_FORM", "MODE_FORM",
+                                        "WRITE_WHY", "HANDED_WHY",  "FIELD_WHY"};
     static struct vectors vectors = {.draw = {0x5eed}};
 
     if (!read_arguments(&vectors, count, arguments))

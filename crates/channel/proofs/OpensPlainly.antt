@@ -181,7 +181,7 @@ at-rest s mask active =
 -- two channels at rest differ in set-up and SLI numbers alone: every other field is said
 pub rest-is-one : (a b : Channel) → AtRest a → AtRest b → a .setup ≡ b .setup → a .pusher .sli ≡ b .pusher .sli → a ≡ b
 rest-is-one a b x y setup sli =
-    let e = pusher.error-told (a .pusher .error) (b .pusher .error) (x .pusher-error ∙ sym (y .pusher-error)) in
+    let e = pusher.other-told (a .pusher .error) (b .pusher .error) (x .pusher-error ∙ sym (y .pusher-error)) (λ four. omega (arith, y .pusher-error)) in
     let f = puller.error-told (a .puller .error) (b .puller .error) (x .puller-error ∙ sym (y .puller-error)) in
     rw (setup, sli, x .get, y .get, x .put, y .put, x .run, y .run, x .subroutine, y .subroutine, x .ib, y .ib, x .main, y .main, e, x .engines, y .engines, x .last, y .last, x .reference, y .reference, x .semaphore, y .semaphore, x .acquire, y .acquire, x .long, y .long, f)
 

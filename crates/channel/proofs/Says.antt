@@ -101,7 +101,7 @@ module _ (s : Setup) (p : Pusher) (q : Puller) (l : Loan) where
   commanded p (OldJump a) = inl refl
   commanded p (Jump a) = inl refl
   commanded p (Call a) = by-test Left (λ e. inr (refl, λ z. omega arith)) (λ e. inl refl)
-  commanded p Reserved = inr (refl, λ z. omega arith)
+  commanded p (Reserved y) = inr (refl, λ z. omega arith)
   commanded p (Refused n) = inr (refl, λ z. omega arith)
 
   pub says-command : Commanded (left (moving pusher.commands))

@@ -98,4 +98,6 @@ pub(crate) const SEMAPHORE_SEQUENCE: usize = 43;
 
 pub(crate) const ACQUIRE_MODE: usize = 44;
 
-pub(crate) const CHANNEL_WORDS: usize = 45;
+pub(crate) const PUSHER_WHY: usize = 45;
+
+pub(crate) const CHANNEL_WORDS: usize = 46;

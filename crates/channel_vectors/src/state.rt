@@ -21,6 +21,7 @@ use pusher::Subroutine;
 use word::Level;
 use word::Mode;
 use word::Setting;
+use word::Why;
 
 // The next words: a channel's.
 pub(crate) fn next_channel() -> [u32; CHANNEL_WORDS] {
@@ -98,7 +99,7 @@ fn pusher_of(q: [u32; CHANNEL_WORDS]) -> Pusher {
         mask: q[layout::SLI_MASK],
         active: flag(q[layout::SLI_ACTIVE]),
     };
-    let error = pusher_error(q[layout::PUSHER_ERROR]);
+    let error = pusher_error(q[layout::PUSHER_ERROR], q[layout::PUSHER_WHY]);
     Pusher {
         get: pair_of(q[layout::GET], q[layout::GET_HIGH]),
         put: pair_of(q[layout::PUT], q[layout::PUT_HIGH]),
@@ -144,6 +145,7 @@ fn with_pusher(words: [u32; CHANNEL_WORDS], pusher: Pusher) -> [u32; CHANNEL_WOR
     words[layout::SLI_MASK] = pusher.sli.mask;
     words[layout::SLI_ACTIVE] = number(pusher.sli.active);
     words[layout::PUSHER_ERROR] = error.number();
+    words[layout::PUSHER_WHY] = why_number(error);
     words
 }
 
@@ -216,16 +218,33 @@ fn with_puller(words: [u32; CHANNEL_WORDS], puller: Puller) -> [u32; CHANNEL_WOR
     words
 }
 
-fn pusher_error(number: u32) -> PusherError {
+fn pusher_error(number: u32, why: u32) -> PusherError {
     match number {
         1 => PusherError::Call,
         2 => PusherError::NonCache,
         3 => PusherError::Return,
-        4 => PusherError::ReservedCmd,
+        4 => PusherError::ReservedCmd { why: why_of(why) },
         5 => PusherError::Ib,
         6 => PusherError::Protection,
         _ => PusherError::None,
     }
+}
+
+fn why_of(number: u32) -> Why {
+    match number {
+        2 => Why::Level,
+        3 => Why::Mode,
+        4 => Why::Sli,
+        _ => Why::Form,
+    }
+}
+
+// The why of an error, 0 where it has none.
+fn why_number(error: PusherError) -> u32 {
+    let PusherError::ReservedCmd { why } = error else {
+        return 0;
+    };
+    why.number() as u32
 }
 
 fn puller_error(number: u32) -> PullerError {

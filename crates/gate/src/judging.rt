@@ -1,12 +1,15 @@
 // The judgement of a submission.
 ghost use mathlib.Core.Path.{_≡_};
 ghost use Prim.Native.Nat.{ℕ, _^_, _≤_, _<_};
+ghost use mathlib.Core.List.{List};
 ghost use lib.ListN.{length, getD};
+ghost use Rattle.word.specs.Why.{whyOf};
+ghost use Rattle.word.specs.Reading.{why};
 ghost use Rattle.word.specs.Lent.{wordsOf};
 ghost use Rattle.word.specs.Lowest.{lowest};
 ghost use Rattle.rules.specs.Map.{overThree};
 ghost use Rattle.rules.specs.Reason.{submission};
-ghost use Rattle.rules.specs.Judging.{placeVerdict, startVerdict, verdictOf, refusing};
+ghost use Rattle.rules.specs.Judging.{placeVerdict, startVerdict, verdictOf, withWhy, refusing};
 ghost use Rattle.rules.specs.Contracts.{NoSuchLengths, FirstRefuses, Judges};
 use crate::map::all_bits;
 use crate::map::is_marked;
@@ -24,8 +27,10 @@ use word::Check;
 use word::Level;
 use word::MOST_WORDS;
 use word::Mode;
+use word::Reading;
 use word::Refusal;
 use word::Setting;
+use word::Why;
 
 // Judges words, lent as little-endian bytes, with the map of their command starts and the list of
 // permitted methods.
@@ -47,10 +52,39 @@ pub fn judge(level: u32, sli: bool, words: &[u8], map: &[u8], permit: &[u8]) -> 
     if no_such_lengths(words.len(), map.len(), permit.len()) {
         return refused(Refusal::LENGTH);
     }
+    let verdict = whole_verdict(setting, words, map, permit);
     Judgement {
-        verdict: whole_verdict(setting, words, map, permit),
+        verdict: with_why(setting, words, verdict),
         count: set_bits(permit),
     }
+}
+
+// A verdict for reason 3 says why the word at its place is reserved, for which that is read once more,
+// whatever list is submitted.
+fn with_why(setting: Setting, words: &[u8], verdict: Verdict) -> Verdict
+    ensures { λ r. ⌜ ((list : List ℕ) → r ≡ withWhy (submission setting (now (words .entry)) list) verdict) ⌝ }
+{
+    let Verdict::Rejected { reason, place } = verdict else {
+        return verdict;
+    };
+    if reason.number != Reason::RESERVED.number {
+        return verdict;
+    }
+    let word = word::word_at(words, place as usize);
+    Verdict::Reserved {
+        why: why_of(word::read(setting, word, 0)),
+        place,
+    }
+}
+
+// The why of a reading, which no other than a reserved word's is asked for.
+fn why_of(reading: Reading) -> Why
+    ensures { λ r. ⌜ r ≡ whyOf (why reading) ⌝ }
+{
+    let Reading::Reserved { why } = reading else {
+        return Why::Form;
+    };
+    why
 }
 
 fn refused(refusal: Refusal) -> Judgement

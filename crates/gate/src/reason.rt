@@ -120,7 +120,7 @@ fn is_reserved(command: Reading) -> bool
     ensures { λ r. ⌜ r ≡ reserved? command ⌝ }
 {
     match command {
-        Reading::Long { .. } | Reading::Reserved | Reading::Refused { .. } => true,
+        Reading::Long { .. } | Reading::Reserved { .. } | Reading::Refused { .. } => true,
         _ => false,
     }
 }

@@ -9,14 +9,17 @@ use gate::Verdict;
 pub struct Answer {
     pub reason: u32,
     pub refusal: u32,
+    pub why: u32,
     pub count: u32,
     pub place: u32,
 }
 
+// An answer without a why.
 pub(crate) fn answering(reason: u32, refusal: u32, count: u32, place: u32) -> Answer {
     Answer {
         reason,
         refusal,
+        why: 0,
         count,
         place,
     }
@@ -24,11 +27,21 @@ pub(crate) fn answering(reason: u32, refusal: u32, count: u32, place: u32) -> An
 
 // The model's.
 pub(crate) fn next_answer() -> Answer {
-    answering(next_word(), next_word(), next_word(), next_word())
+    Answer {
+        reason: next_word(),
+        refusal: next_word(),
+        why: next_word(),
+        count: next_word(),
+        place: next_word(),
+    }
 }
 
 pub(crate) fn same(a: Answer, b: Answer) -> bool {
-    a.reason == b.reason && a.refusal == b.refusal && a.count == b.count && a.place == b.place
+    same_reason(a, b) && a.count == b.count && a.place == b.place
+}
+
+fn same_reason(a: Answer, b: Answer) -> bool {
+    a.reason == b.reason && a.refusal == b.refusal && a.why == b.why
 }
 
 // The library's, to a question about the first bytes of each pool.
@@ -56,14 +69,14 @@ fn asked(question: Question, wanted: Answer, words: &[u8], map: &[u8], permit: &
     exported
 }
 
-// The byte above the refusal, 0 in a right answer, is taken as a part of it.
 fn unpacked(packed: u64) -> Answer {
-    answering(
-        (packed % 0x100) as u32,
-        (packed / 0x100 % 0x1_0000) as u32,
-        (packed / 0x100_0000 % 0x1_0000) as u32,
-        (packed / 0x100_0000_0000) as u32,
-    )
+    Answer {
+        reason: (packed % 0x100) as u32,
+        refusal: (packed / 0x100 % 0x100) as u32,
+        why: (packed / 0x1_0000 % 0x100) as u32,
+        count: (packed / 0x100_0000 % 0x1_0000) as u32,
+        place: (packed / 0x100_0000_0000) as u32,
+    }
 }
 
 fn told(judgement: Judgement) -> Answer {
@@ -73,5 +86,12 @@ fn told(judgement: Judgement) -> Answer {
         Verdict::Accepted => answering(0, 0, count, 0),
         Verdict::Rejected { reason, place } => answering(reason.number as u32, 0, count, place),
         Verdict::Refused { refusal } => answering(0, refusal.number as u32, count, 0),
+        Verdict::Reserved { why, place } => Answer {
+            reason: 3,
+            refusal: 0,
+            why: why.number() as u32,
+            count,
+            place,
+        },
     }
 }

@@ -68,10 +68,12 @@ fn main() {
 fn show(wanted: Answer, got: Answer) {
     line(b"  wanted reason ", wanted.reason);
     line(b"  wanted refusal ", wanted.refusal);
+    line(b"  wanted why ", wanted.why);
     line(b"  wanted count ", wanted.count);
     line(b"  wanted place ", wanted.place);
     line(b"  got reason ", got.reason);
     line(b"  got refusal ", got.refusal);
+    line(b"  got why ", got.why);
     line(b"  got count ", got.count);
     line(b"  got place ", got.place);
 }

@@ -39,7 +39,7 @@ span-bare (Long s m c) h = absurd (miss bare 4 tt h)
 span-bare (OldJump t) h = refl
 span-bare (Jump t) h = refl
 span-bare (Call t) h = refl
-span-bare Reserved h = refl
+span-bare (Reserved y) h = refl
 span-bare (Refused r) h = refl
 
 -- what an `if let` on `Reserved` leaves: another number
@@ -56,7 +56,7 @@ not-reserved (Long s m c) h e = omega arith
 not-reserved (OldJump t) h e = omega arith
 not-reserved (Jump t) h e = omega arith
 not-reserved (Call t) h e = omega arith
-not-reserved Reserved h e = miss others 8 tt h
+not-reserved (Reserved y) h e = miss others 8 tt h
 not-reserved (Refused r) h e = omega arith
 
 -- the item of what stands at place p of n words

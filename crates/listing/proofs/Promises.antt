@@ -9,7 +9,7 @@ use native.Mathlib.Omega.{arith}
 use lib.ListN.{length, getD, length-append, List·getD-append}
 use lib.Seq.{getD-append-add}
 use denote.Ref.{now}
-use borrow.Author.Tests.{lt-ltb, le-ltb, le-leb, lt-leb, eq-eqb, ne-eqb, leb-true, eqb-true}
+use borrow.Author.Tests.{lt-ltb, le-ltb, le-leb, lt-leb, eq-eqb, ne-eqb, leb-true, eqb-true, eqb-false}
 use Rattle.word.specs.First.{FirstIs}
 use Rattle.word.specs.Setting.{settingCases, sizeCases, refusedOr, checkOf, SIZE}
 use Rattle.word.specs.Reading.{parameterCount, readOf}
@@ -21,12 +21,13 @@ use Rattle.word.specs.declared.setting.Setting.{Setting}
 use Rattle.word.specs.declared.setting.Check.the-variants.{Fine}
 use Rattle.word.specs.declared.reading.Reading.{Reading}
 use Rattle.word.specs.declared.reading.Reading.the-variants as reads
+use Rattle.word.proofs.Told.{no-why-of, why-back}
 use Rattle.word.proofs.First.{by-test, choose-true, choose-false, one-outcome, append-none}
 use Rattle.word.proofs.Settings.{accepted, told-first, told-plain, none-fine, passed-by, miss, no-more}
 use Rattle.word.proofs.Plainly.{form-plain, size-is, setting-agree, none-plain, size-agree}
 use Rattle.word.proofs.Promises.{passed as written-passed, is-command, read-back}
 use Rattle.listing.specs.Listing.{span, endsAt, itemOf, listOf}
-use Rattle.listing.specs.Answers.{number, values, itemRefusal}
+use Rattle.listing.specs.Answers.{number, values, itemWhy, itemRefusal}
 use Rattle.listing.specs.Contracts.{ListsAt, movedTo}
 use Rattle.listing.specs.Promises.{Refused, One, New, IsCommand, Stays, Items, Next, Made, nothing, more, InTurn, over, on, GivesBack}
 use Rattle.listing.specs.declared.command.Item.{Item}
@@ -144,6 +145,15 @@ module _ (s : Setting) (ws : List ℕ) (p : ℕ) (a : Listed) (c : ListsAt s ws 
     unfolding itemOf number
     reserved-there k = ap (λ (x : Listed). number (x .item)) (at-word ∙ choose-true (eq-eqb _ _ k) _ _)
 
+    item-why : itemWhy (a .item) ≡ reading.why r
+    unfolding itemOf itemWhy
+    item-why =
+        ap (λ (x : Listed). itemWhy (x .item)) at-word
+        ∙ by-test Why (λ t. why-back r (eqb-true _ _ t)) (λ t. let none-there = sym (no-why-of r (eqb-false _ _ t)) in by-test Why (λ u. none-there) (λ u. none-there))
+      where
+        Why : Listed → Type 0
+        Why x = itemWhy (x .item) ≡ reading.why r
+
     module _ (k : reading.number r ≤ 8) where
       other : reading.number r ≡ 9 → ⊥
       other q = omega arith
@@ -169,6 +179,7 @@ items =
     record {
       past = λ s ws p a c e. (at-end s ws p a c e, past-end s ws p a c e);
       reserved = λ s ws p a r c e h d. (reserved-only s ws p a c e r h d, reserved-there s ws p a c e r h d);
+      why = λ s ws p a r c e h d. item-why s ws p a c e r h d;
       short = λ s ws p a r c e h d. runs-short s ws p a c e r h d;
       command = λ s ws p a r c e h d. commands s ws p a c e r h d;
     }
@@ -176,7 +187,7 @@ items =
 pub next : Next
 next s l a exit x g e =
     let same : a ≡ x .item = one-outcome (g .item) (ap (λ (y : Listed). y .item) e) in
-    (ap number same, ap values same, ap (λ (y : Listing). y .words) (g .reader), ap (λ (y : Listing). y .place) (g .reader) ∙ ap (λ (y : Listed). y .place) (sym e))
+    (ap number same, ap values same, ap itemWhy same, ap (λ (y : Listing). y .words) (g .reader), ap (λ (y : Listing). y .place) (g .reader) ∙ ap (λ (y : Listed). y .place) (sym e))
 
 -- a command has a word
 a-word : (r : Reading) → 1 ≤ size r

@@ -5,7 +5,8 @@ use lib.Dec.{eqb, leb, ltb}
 use lib.ListN.{length, getD}
 use Rattle.word.specs.First.{choose, first}
 use Rattle.word.specs.Setting.{settingCases, sizeCases, refusedOr}
-use Rattle.word.specs.Reading.{number, parameterCount, readingOf}
+use Rattle.word.specs.Why.{whyOf}
+use Rattle.word.specs.Reading.{number, why, parameterCount, readingOf}
 use Rattle.word.specs.Writing.{ownWords}
 use Rattle.word.specs.declared.setting.Setting.{Setting}
 use Rattle.word.specs.declared.reading.Reading.{Reading}
@@ -21,11 +22,11 @@ span r = length (ownWords r) + parameterCount r
 abbrev pub endsAt : ℕ → Item → Listed
 endsAt p i = record { item = i; place = p }
 
--- K2, K3: a reserved word (number 9) is an end, and so is a command that the words are too few for; else the command, and the place
--- behind its words
+-- K2, K3, K6: a reserved word (number 9) is an end, with its why, and so is a command that the words are too few for; else the command,
+-- and the place behind its words
 unfoldable pub itemOf : Reading → ℕ → ℕ → Listed
 itemOf r n p =
-    choose (eqb (number r) 9) (endsAt p item.Reserved)
+    choose (eqb (number r) 9) (endsAt p (item.Reserved (whyOf (why r))))
     (choose (ltb n (p + span r)) (endsAt p item.Short)
     (record { item = item.Command r; place = p + span r }))
 

@@ -15,7 +15,7 @@ use Rattle.word.specs.Reading as reading
 use Rattle.word.specs.declared.setting.Setting.{Setting}
 use Rattle.word.specs.declared.reading.Reading.{Reading}
 use Rattle.word.specs.declared.writing.Written.{Written}
-use Rattle.listing.specs.Answers.{number, values, itemRefusal}
+use Rattle.listing.specs.Answers.{number, values, itemWhy, itemRefusal}
 use Rattle.listing.specs.Contracts.{ListsAt, Begins, Gives}
 use Rattle.listing.specs.declared.command.Item.{Item}
 use Rattle.listing.specs.declared.command.Listed.{Listed}
@@ -68,6 +68,14 @@ pub record Items : Type 0 where
       → p < length ws
       → Reads s (getD ws p 0) (getD ws (p + 1) 0) r
       → number (a .item) ≡ 3 ↔ reading.number r ≡ 9
+  -- K6: with the word's why, which a command has not
+  pub why :
+      (s : Setting) (ws : List ℕ) (p : ℕ) (a : Listed) (r : Reading)
+      → ListsAt s ws p a
+      → itemRefusal (a .item) ≡ none
+      → p < length ws
+      → Reads s (getD ws p 0) (getD ws (p + 1) 0) r
+      → itemWhy (a .item) ≡ reading.why r
   pub short :
       (s : Setting) (ws : List ℕ) (p : ℕ) (a : Listed) (r : Reading)
       → ListsAt s ws p a
@@ -93,7 +101,7 @@ Next =
     (s : Setting) (l : Listing) (a : Item) (exit : Listing) (x : Listed)
     → Gives s l a exit
     → ListsAt s (now (l .words)) (l .place) x
-    → (number a ≡ number (x .item)) × (values a ≡ values (x .item)) × (exit .words ≡ l .words) × (exit .place ≡ x .place)
+    → (number a ≡ number (x .item)) × (values a ≡ values (x .item)) × (itemWhy a ≡ itemWhy (x .item)) × (exit .words ≡ l .words) × (exit .place ≡ x .place)
 
 -- Listing what the writer wrote gives the commands back, at a setting that is not refused.
 

@@ -7,13 +7,14 @@ use word::Place;
 use word::Reading;
 use word::Refusal;
 use word::Setting;
+use word::Why;
 use word::read_at;
 
-// A command, or an end and which (K3); or why nothing is listed.
+// A command, or an end and which (K3), at a reserved word with its why; or why nothing is listed.
 pub enum Item {
     Command { reading: Reading },
     Past,
-    Reserved,
+    Reserved { why: Why },
     Short,
     Refused { refusal: Refusal },
 }
@@ -47,9 +48,9 @@ fn item_of(reading: Reading, words: usize, place: usize) -> Listed
     requires { ⌜ (place < words) × (words ≤ 1048576) ⌝ }
     ensures { λ r. ⌜ r ≡ itemOf reading words place ⌝ }
 {
-    if let Reading::Reserved = reading {
+    if let Reading::Reserved { why } = reading {
         return Listed {
-            item: Item::Reserved,
+            item: Item::Reserved { why },
             place,
         };
     }

@@ -6,14 +6,16 @@ use listing::Listed;
 use word::Reading;
 use word::Refusal;
 use word::Setting;
+use word::Why;
 
-// An item's number, a reading's with its values, and the place after it. What an answer lacks is 0.
+// An item's number, a reading's with its values, a why, and the place after it. What an answer lacks is 0.
 pub struct Answer {
     pub item: u32,
     pub reading: u32,
     pub a: u32,
     pub b: u32,
     pub c: u32,
+    pub why: u32,
     pub place: usize,
 }
 
@@ -29,12 +31,13 @@ pub(crate) fn next_answer() -> Answer {
         a: next_word(),
         b: next_word(),
         c: next_word(),
+        why: next_word(),
         place: next_word() as usize,
     }
 }
 
 pub(crate) fn same(a: Answer, b: Answer) -> bool {
-    same_item(a, b) && a.place == b.place
+    same_item(a, b) && a.why == b.why && a.place == b.place
 }
 
 fn same_item(a: Answer, b: Answer) -> bool {
@@ -57,7 +60,7 @@ fn told(listed: Listed) -> Answer {
     match item {
         Item::Command { reading } => told_reading(reading, place),
         Item::Past => without(2, 0, place),
-        Item::Reserved => without(3, 0, place),
+        Item::Reserved { why } => reserved(why, place),
         Item::Short => without(4, 0, place),
         Item::Refused { refusal } => without(5, wide(refusal), place),
     }
@@ -71,6 +74,20 @@ fn without(item: u32, a: u32, place: usize) -> Answer {
         a,
         b: 0,
         c: 0,
+        why: 0,
+        place,
+    }
+}
+
+// The end at a reserved word.
+fn reserved(why: Why, place: usize) -> Answer {
+    Answer {
+        item: 3,
+        reading: 0,
+        a: 0,
+        b: 0,
+        c: 0,
+        why: why.number() as u32,
         place,
     }
 }
@@ -82,6 +99,7 @@ fn command(reading: u32, a: u32, b: u32, c: u32, place: usize) -> Answer {
         a,
         b,
         c,
+        why: 0,
         place,
     }
 }
@@ -109,7 +127,7 @@ fn told_reading(reading: Reading, place: usize) -> Answer {
         Reading::OldJump { target } => command(6, target, 0, 0, place),
         Reading::Jump { target } => command(7, target, 0, 0, place),
         Reading::Call { target } => command(8, target, 0, 0, place),
-        Reading::Reserved => command(9, 0, 0, 0, place),
+        Reading::Reserved { .. } => command(9, 0, 0, 0, place),
         Reading::Refused { refusal } => command(10, wide(refusal), 0, 0, place),
     }
 }

@@ -55,6 +55,7 @@ fn show(answer: Answer) {
     line(b"    value ", answer.a);
     line(b"    value ", answer.b);
     line(b"    value ", answer.c);
+    line(b"    why ", answer.why);
     long_line(b"    place ", answer.place as u64);
 }
 

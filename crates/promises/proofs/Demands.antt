@@ -24,6 +24,7 @@ use Rattle.rules.proofs.Examples as rules-examples
 use Rattle.rules.proofs.NoneWraps as rules-none-wraps
 use Rattle.rules.proofs.Promises as rules
 use Rattle.rules.proofs.Reasons as rules-reasons
+use Rattle.rules.proofs.Whys as rules-whys
 use Rattle.rules.proofs.Sound as rules-sound
 use Rattle.rules.proofs.SoundMoves as rules-moves
 use Rattle.search.proofs.Promises as search
@@ -50,6 +51,7 @@ first =
       trace-refused = trace.refused;
       gate-submitted = rules.submitted;
       gate-reasons = rules-reasons.reasons;
+      gate-whys = rules-whys.whys;
       gate-first-pairs = rules-reasons.first-pairs;
       gate-at-one-pair = rules-reasons.at-one-pair;
       counted = rules.counted;
@@ -97,11 +99,13 @@ second =
       puller-errors = puller.errors;
       events-told = event.told;
       readings-told = word-told.told;
+      whys = word-told.whys;
       moves-told = pusher-told.told;
       forms = word-forms.forms;
       parameters = word-told.parameters;
       read-back = word.read-back;
       write-back = word.write-back;
+      says-why = word.says-why;
       at-place = word.at-place;
       widths = word.widths;
       specials = word.specials;

@@ -33,10 +33,11 @@ pub record First : Type 0 where
   pub repair-refused : repair.Refused
   pub listing-refused : listing.Refused
   pub trace-refused : trace.Refused
-  -- and so is a reason of what is submitted, with its place; of the first refused pair also its state, and of one pair each part of the
-  -- list by itself
+  -- and so is a reason of what is submitted, with its place and, of a reserved word, its why; of the first refused pair also its state, and
+  -- of one pair each part of the list by itself
   pub gate-submitted : reasons.Submitted
   pub gate-reasons : reasons.Reasons
+  pub gate-whys : reasons.Whys
   pub gate-first-pairs : reasons.FirstPairs
   pub gate-at-one-pair : reasons.AtOnePair
   -- the count of the answer is the number of permitted methods, and the numbers for C give the answers back
@@ -82,8 +83,8 @@ pub record Second : Type 1 where
   pub puller-widths : puller-widths.KeepsWidths
   -- whether a further step would be idle
   pub idle : channel.Idle
-  -- by what the sentences name things: halves with one thing changed; what is lent as one thing; kinds and errors by their numbers;
-  -- events, readings and what a move did by their numbers and values
+  -- by what the sentences name things: halves with one thing changed; what is lent as one thing; kinds, errors and whys by their numbers;
+  -- events, readings and what a move did by their numbers and values, a reading also by its why
   pub pusher-setters : pusher.Setters
   pub puller-setters : puller.Setters
   pub pusher-lends : pusher.Lends
@@ -94,12 +95,14 @@ pub record Second : Type 1 where
   pub puller-errors : puller.Errors
   pub events-told : event.Told
   pub readings-told : word.Told
+  pub whys : word.Whys
   pub moves-told : pusher.Told
-  -- reader and writer: which word reads as what, and how many parameters a command has
+  -- reader and writer: which word reads as what, or why as nothing, and how many parameters a command has; why one may not be written
   pub forms : word-forms.Forms
   pub parameters : word.Parameters
   pub read-back : word.ReadBack
   pub write-back : word.WriteBack
+  pub says-why : word.SaysWhy
   pub at-place : word.AtPlace
   pub widths : word.Widths
   pub specials : word.Specials

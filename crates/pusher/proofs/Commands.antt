@@ -6,6 +6,7 @@ use native.Mathlib.Omega.{arith}
 use types.Run.{OneOf, miss}
 use denote.Enum.Declared.{tagOf}
 use Rattle.word.specs.Reading.{number}
+use Rattle.word.specs.declared.why.Why.the-variants as why
 use Rattle.word.specs.declared.reading.Reading.{Reading}
 use Rattle.word.specs.declared.reading.Reading.the-variants.{Increasing, NonIncreasing, Sli, Return, Long, OldJump, Jump, Call, Reserved, Refused}
 use Rattle.word.proofs.reading.Reading.{the-type}
@@ -27,14 +28,14 @@ no-long (Long s m c) h e = miss others 4 tt h
 no-long (OldJump t) h e = omega arith
 no-long (Jump t) h e = omega arith
 no-long (Call t) h e = omega arith
-no-long Reserved h e = omega arith
+no-long (Reserved y) h e = omega arith
 no-long (Refused r) h e = omega arith
 
--- the tags of the readings that are no command, and of a long form
+-- the tags of a long form, and of a refusal
 abbrev rest : List ℕ
-rest = 4 ∷ 8 ∷ 9 ∷ []
+rest = 4 ∷ 9 ∷ []
 
-pub no-command : (p : Pusher) (r : Reading) → OneOf rest (tagOf the-type r) → (number r ≡ 5 → ⊥) → failedBy p cause.ReservedCmd ≡ commanded p r
+pub no-command : (p : Pusher) (r : Reading) → OneOf rest (tagOf the-type r) → (number r ≡ 5 → ⊥) → failedBy p (cause.ReservedCmd why.Form) ≡ commanded p r
 unfolding commanded number
 no-command p (Increasing c s m) h n = absurd (miss rest 0 tt h)
 no-command p (NonIncreasing c s m) h n = absurd (miss rest 1 tt h)
@@ -44,5 +45,5 @@ no-command p (Long s m c) h n = absurd (n refl)
 no-command p (OldJump t) h n = absurd (miss rest 5 tt h)
 no-command p (Jump t) h n = absurd (miss rest 6 tt h)
 no-command p (Call t) h n = absurd (miss rest 7 tt h)
-no-command p Reserved h n = refl
+no-command p (Reserved y) h n = absurd (miss rest 8 tt h)
 no-command p (Refused r) h n = refl

@@ -3,6 +3,7 @@ use Prim.Native.Nat.{ℕ, _≤_}
 use mathlib.Core.Path.{_≡_, refl, sym, ap, _∙_}
 use mathlib.Core.Bool.{Bool, true, false, false≢true}
 use native.Mathlib.Omega.{arith}
+use Rattle.word.specs.declared.why.Why.the-variants as why
 use Rattle.word.specs.declared.reading.Reading.{Reading}
 use Rattle.word.specs.declared.reading.Reading.the-variants.{Increasing, NonIncreasing, Sli, Return, Long, OldJump, Jump, Call, Reserved, Refused}
 use Rattle.word.proofs.First.{by-test}
@@ -57,8 +58,8 @@ module _ (q i p : Pusher) where
     command-fails (OldJump t) = runs-on _ run
     command-fails (Jump t) = runs-on _ run
     command-fails (Call t) = by-test Fate (λ e. word-fails cause.Call (omega arith) (omega arith)) (λ e. runs-on _ run)
-    command-fails Reserved = word-fails cause.ReservedCmd (omega arith) (omega arith)
-    command-fails (Refused n) = word-fails cause.ReservedCmd (omega arith) (omega arith)
+    command-fails (Reserved y) = word-fails (cause.ReservedCmd y) (omega arith) (omega arith)
+    command-fails (Refused n) = word-fails (cause.ReservedCmd why.Form) (omega arith) (omega arith)
 
   entry-fails : (e : Entry) → Running i → Fate (entered i e)
   unfolding entered prepared number

@@ -41,7 +41,7 @@ module _ (s : Setting) (w : ℕ) (ib : s .mode .number ≡ 1) (q : Pusher) where
   command-stays (OldJump t) e = away (OldJump t) e (λ n. omega arith) (λ x. x .1 .1 .1 .1 .1 .0 .exactly .0 refl .1)
   command-stays (Jump t) e = away (Jump t) e (λ n. omega arith) (λ x. x .1 .1 .1 .1 .1 .1 .0 .exactly .0 refl .1 .1)
   command-stays (Call t) e = away (Call t) e (λ n. omega arith) (λ x. x .1 .1 .1 .1 .1 .1 .1 .0 .exactly .0 refl .1 .1)
-  command-stays Reserved e = refl
+  command-stays (Reserved y) e = refl
   command-stays (Refused n) e = refl
 
 parameter-stays : (s : Setup) (q : Pusher) (w : ℕ) → Stays q (parameterOf s q w)

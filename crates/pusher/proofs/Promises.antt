@@ -1,9 +1,10 @@
 -- The promises about a move of the pusher, each under its name in specs/Promises.antt. Assumes nothing.
-use Prim.Native.Nat.{ℕ, _+_, _*_, _/_, _%_, _^_, _≤_, _<_}
+use Prim.Native.Nat.{ℕ, _+_, _*_, _/_, _%_, _^_, _<_}
 use mathlib.Core.Path.{_≡_, refl, sym, ap, _∙_}
 use mathlib.Core.Bool.{Bool, true, false, not, false≢true}
 use mathlib.Core.List.{List, [], _∷_}
 use mathlib.Core.Logic.{_⊎_, inl, inr, ⊎-elim, _↔_}
+use mathlib.Core.Option.{Option}
 use native.Mathlib.Omega.{arith}
 use lib.Bits.{bitAnd}
 use lib.Dec.{eqb, ltb, leb}
@@ -22,9 +23,9 @@ use Rattle.event.specs.declared.Kind.the-variants as kind
 use Rattle.pusher.specs.Loan.{PusherLoan}
 use Rattle.pusher.specs.Record.{number, withRun, withCount, withAwaited}
 use Rattle.pusher.specs.Entry.{parts, entryOf}
-use Rattle.pusher.specs.Moving.{halted, faults, idles, beyond, act, pushOf, advanced, counted, quietly, failedBy, commanded, begun, conditional, called, returned}
+use Rattle.pusher.specs.Moving.{halted, faults, idles, beyond, act, pushOf, advanced, counted, quietly, commanded, begun, conditional, called, returned}
 use Rattle.pusher.specs.Contracts.{Moves}
-use Rattle.pusher.specs.Promises.{Running, ReadsWord, ReadsCommand, IsWord, ParameterRead, CommandRead, Share, EntryNext, EntryRead, sizeIn, Leaves, Fails, Sentences, Pushes, NoOther, Errors, Setters, Lends, One, EntryNumbers}
+use Rattle.pusher.specs.Promises.{Running, ReadsWord, ReadsCommand, IsWord, ParameterRead, CommandRead, Share, EntryNext, EntryRead, sizeIn, Leaves, Fails, Reserves, Sentences, Pushes, NoOther, Errors, Setters, Lends, One, EntryNumbers}
 use Rattle.pusher.specs.declared.record.Setup.{Setup}
 use Rattle.pusher.specs.declared.record.Run.{Run}
 use Rattle.pusher.specs.declared.record.PusherError.the-variants as cause
@@ -32,9 +33,9 @@ use Rattle.pusher.specs.declared.record.Pusher.{Pusher}
 use Rattle.pusher.specs.declared.moving.Pushed.{Pushed}
 use Rattle.pusher.proofs.Roles.{missing, readable, no-word, past-entries, when-halted, when-words, without-ib, without-entries, when-entries}
 use Rattle.pusher.proofs.Share.{share}
-use Rattle.pusher.proofs.Outcomes.{says-of, discards-of, hands-over-of, fails-of, leaves-one, fails-one}
-use Rattle.pusher.proofs.Sentences.{runs, stands, past-of, keeps, by-role, count-is, parameter-is, command-is, non-cache-is, discard-is, submit-is, taken, rises-of, used-up-is, entry-is, empty-is, not-main-is, main-is}
-use Rattle.pusher.proofs.Told.{error-numbered}
+use Rattle.pusher.proofs.Outcomes.{says-of, discards-of, hands-over-of, fails-of, reserved-is, refused-is, leaves-one, fails-one, reserves-one}
+use Rattle.pusher.proofs.Sentences.{runs, stands, past-of, keeps, by-role, count-is, parameter-is, reading-is, command-is, non-cache-is, discard-is, submit-is, taken, rises-of, used-up-is, entry-is, empty-is, not-main-is, main-is}
+use Rattle.pusher.proofs.Told.{error-stands, error-why}
 
 counted-is : (q : Pusher) (r : Run) (w : ℕ) → q .run ≡ r → counted q w ≡ quietly (withRun q (withAwaited (withCount r (w % 2 ^ 24)) false)) kind.Count
 unfolding counted
@@ -52,19 +53,6 @@ begun-some q r c b n up e a some = let number : 4 * n / 4 ≡ n = omega arith in
 long-is : (q : Pusher) (r : Run) (b n c : ℕ) → q .run ≡ r → r .count ≡ 0 → commanded q (Long b (4 * n) c) ≡ quietly (withRun q (record { count = 0; method = n; subchannel = b; increasing = false; awaited = true })) kind.Command
 unfolding commanded
 long-is q r b n c e z = let number : 4 * n / 4 ≡ n = omega arith in rw (e, z, number)
-
-reserved-is : (q : Pusher) (x : Reading) → 9 ≤ reading.number x → commanded q x ≡ failedBy q cause.ReservedCmd
-unfolding commanded reading.number
-reserved-is q (Increasing c s m) h = absurd (omega arith)
-reserved-is q (NonIncreasing c s m) h = absurd (omega arith)
-reserved-is q (Sli k) h = absurd (omega arith)
-reserved-is q Return h = absurd (omega arith)
-reserved-is q (Long s m c) h = absurd (omega arith)
-reserved-is q (OldJump t) h = absurd (omega arith)
-reserved-is q (Jump t) h = absurd (omega arith)
-reserved-is q (Call t) h = absurd (omega arith)
-reserved-is q Reserved h = refl
-reserved-is q (Refused n) h = refl
 
 -- the flag that says whether the masks share a set bit
 flag-of : (k mask : ℕ) → not (eqb (bitAnd k mask) 0) ≡ true ↔ Share k mask
@@ -107,34 +95,33 @@ pushes =
       nothing = λ s p q l k b n r m rd h.
           says-of kind.Command
           (m
-          ∙ ⊎-elim (λ e. command-is s p l q (Increasing 0 b n) rd (sym e) refl ∙ begun-nothing q b n true)
-          (λ e. command-is s p l q (NonIncreasing 0 b n) rd (sym e) refl ∙ begun-nothing q b n false)
+          ∙ ⊎-elim (λ e. command-is s p l q (Increasing 0 b n) rd (sym e) refl (λ z. omega arith) ∙ begun-nothing q b n true)
+          (λ e. command-is s p l q (NonIncreasing 0 b n) rd (sym e) refl (λ z. omega arith) ∙ begun-nothing q b n false)
           h);
       increasing = λ s p q l c b n r m rd some.
           says-of kind.Command
-          (m ∙ command-is s p l q (Increasing c b (4 * n)) rd refl refl ∙ begun-some q (p .run) c b n true (keeps s p q (rd .past) .run) (rd .read .unawaited) some);
+          (m ∙ command-is s p l q (Increasing c b (4 * n)) rd refl refl (λ z. omega arith) ∙ begun-some q (p .run) c b n true (keeps s p q (rd .past) .run) (rd .read .unawaited) some);
       non-increasing = λ s p q l c b n r m rd some.
           says-of kind.Command
-          (m ∙ command-is s p l q (NonIncreasing c b (4 * n)) rd refl refl ∙ begun-some q (p .run) c b n false (keeps s p q (rd .past) .run) (rd .read .unawaited) some);
+          (m ∙ command-is s p l q (NonIncreasing c b (4 * n)) rd refl refl (λ z. omega arith) ∙ begun-some q (p .run) c b n false (keeps s p q (rd .past) .run) (rd .read .unawaited) some);
       long = λ s p q l b n c r m rd.
-          says-of kind.Command (m ∙ command-is s p l q (Long b (4 * n) c) rd refl refl ∙ long-is q (p .run) b n c (keeps s p q (rd .past) .run) (rd .read .none-left));
+          says-of kind.Command (m ∙ command-is s p l q (Long b (4 * n) c) rd refl refl (λ z. omega arith) ∙ long-is q (p .run) b n c (keeps s p q (rd .past) .run) (rd .read .none-left));
       sli = λ s p q l mask active r m rd h.
-          says-of kind.Command (m ∙ command-is s p l q (Sli mask) rd refl refl ∙ rw (keeps s p q (rd .past) .sli, flag-is mask (p .sli .mask) active h));
+          says-of kind.Command (m ∙ command-is s p l q (Sli mask) rd refl refl (λ z. omega arith) ∙ rw (keeps s p q (rd .past) .sli, flag-is mask (p .sli .mask) active h));
       jump = λ s p q l k t r m rd h.
-          says-of kind.Command (m ∙ ⊎-elim (λ e. command-is s p l q (OldJump t) rd (sym e) refl) (λ e. command-is s p l q (Jump t) rd (sym e) refl) h);
+          says-of kind.Command (m ∙ ⊎-elim (λ e. command-is s p l q (OldJump t) rd (sym e) refl (λ z. omega arith)) (λ e. command-is s p l q (Jump t) rd (sym e) refl (λ z. omega arith)) h);
       call = λ s p q l t r m rd off.
           let k = keeps s p q (rd .past) in
-          says-of kind.Command (m ∙ command-is s p l q (Call t) rd refl refl ∙ choose-false (rw (k .subroutine) off) _ _ ∙ rw (k .get));
+          says-of kind.Command (m ∙ command-is s p l q (Call t) rd refl refl (λ z. omega arith) ∙ choose-false (rw (k .subroutine) off) _ _ ∙ rw (k .get));
       call-inside = λ s p q l t r m rd on.
-          fails-of cause.Call (m ∙ command-is s p l q (Call t) rd refl refl ∙ choose-true (rw (keeps s p q (rd .past) .subroutine) on) _ _);
+          fails-of cause.Call (m ∙ command-is s p l q (Call t) rd refl refl (λ z. omega arith) ∙ choose-true (rw (keeps s p q (rd .past) .subroutine) on) _ _);
       return = λ s p q l r m rd on.
           let k = keeps s p q (rd .past) in
-          says-of kind.Command (m ∙ command-is s p l q Return rd refl refl ∙ choose-false (rw (k .subroutine, on)) _ _ ∙ rw (k .subroutine));
+          says-of kind.Command (m ∙ command-is s p l q Return rd refl refl (λ z. omega arith) ∙ choose-false (rw (k .subroutine, on)) _ _ ∙ rw (k .subroutine));
       return-outside = λ s p q l r m rd off.
-          fails-of cause.Return (m ∙ command-is s p l q Return rd refl refl ∙ choose-true (rw (keeps s p q (rd .past) .subroutine, off)) _ _);
-      reserved = λ s p q l k ns r m rd h.
-          fails-of cause.ReservedCmd
-          (m ∙ command-is s p l q (rd .command) rd (rd .number) (rd .values) ∙ reserved-is q (rd .command) (rw (rd .number) h));
+          fails-of cause.Return (m ∙ command-is s p l q Return rd refl refl (λ z. omega arith) ∙ choose-true (rw (keeps s p q (rd .past) .subroutine, off)) _ _);
+      reserved = λ s p q l ns r m rd. reserved-is q (rd .command) (m ∙ reading-is s p l q rd) (rd .number);
+      refused = λ s p q l ns r m rd. refused-is q (rd .command) (m ∙ reading-is s p l q rd) (rd .number);
       no-entry = λ s p l r m nx h.
           fails-of cause.Protection
           (m
@@ -151,8 +138,11 @@ module _ (R : Setup → Pusher → PusherLoan → Pushed → Type 0) (h : Senten
   says : {o : Pusher} {k : ℕ} {said : List ℕ} → ((Q : Setup → Pusher → PusherLoan → Pushed → Type 0) → Sentences Q → (y : Pushed) → Q s p l y → Leaves o k said y) → Moves s p l r
   says f = leaves-one r (pushOf s p l) (f R h r m) (f Moves pushes (pushOf s p l) refl)
 
-  fails : {o : Pusher} {n : ℕ} → ((Q : Setup → Pusher → PusherLoan → Pushed → Type 0) → Sentences Q → (y : Pushed) → Q s p l y → Fails o n y) → Moves s p l r
-  fails f = fails-one r (pushOf s p l) (f R h r m) (f Moves pushes (pushOf s p l) refl)
+  fails : {o : Pusher} {n : ℕ} → (n ≡ 4 → ⊥) → ((Q : Setup → Pusher → PusherLoan → Pushed → Type 0) → Sentences Q → (y : Pushed) → Q s p l y → Fails o n y) → Moves s p l r
+  fails k f = fails-one r (pushOf s p l) k (f R h r m) (f Moves pushes (pushOf s p l) refl)
+
+  reserves : {o : Pusher} {k : Option ℕ} → ((Q : Setup → Pusher → PusherLoan → Pushed → Type 0) → Sentences Q → (y : Pushed) → Q s p l y → Reserves o k y) → Moves s p l r
+  reserves f = reserves-one r (pushOf s p l) (f R h r m) (f Moves pushes (pushOf s p l) refl)
 
   abbrev q : Pusher
   q = advanced s p
@@ -167,7 +157,7 @@ module _ (R : Setup → Pusher → PusherLoan → Pushed → Type 0) (h : Senten
           → s .setting .sli ≡ on
           → p .sli .active ≡ active
           → Moves s p l r
-      go false on active e f g = fails (λ Q k y a. k .non-cache s p q l w y a rd (sym e))
+      go false on active e f g = fails (λ e. omega arith) (λ Q k y a. k .non-cache s p q l w y a rd (sym e))
       go true false active e f g = says (λ Q k y a. k .submit s p q l w _ y a rd (rises-of (p .run)) (sym e) (inl f))
       go true true true e f g = says (λ Q k y a. k .submit s p q l w _ y a rd (rises-of (p .run)) (sym e) (inr g))
       go true true false e f g = says (λ Q k y a. k .discard s p q l w _ y a rd (rises-of (p .run)) (sym e) f g)
@@ -206,17 +196,17 @@ module _ (R : Setup → Pusher → PusherLoan → Pushed → Type 0) (h : Senten
     command (Sli i) e wi = says (λ Q k y a. k .sli s p q l i _ y a (reading-of _ e refl refl) (flag-of i (p .sli .mask)))
     command Return e wi =
         by-active (λ on. says (λ Q k y a. k .return s p q l y a (reading-of _ e refl refl) on))
-        (λ off. fails (λ Q k y a. k .return-outside s p q l y a (reading-of _ e refl refl) off))
+        (λ off. fails (λ e. omega arith) (λ Q k y a. k .return-outside s p q l y a (reading-of _ e refl refl) off))
     command (Long b n c) e wi =
         let four : n ≡ 4 * (n / 4) = omega (arith, wi .2) in
         says (λ Q k y a. k .long s p q l b (n / 4) c y a (reading-of _ e refl (ap (λ (i : ℕ). b ∷ i ∷ c ∷ []) four)))
     command (OldJump t) e wi = says (λ Q k y a. k .jump s p q l 6 t y a (reading-of _ e refl refl) (inl refl))
     command (Jump t) e wi = says (λ Q k y a. k .jump s p q l 7 t y a (reading-of _ e refl refl) (inr refl))
     command (Call t) e wi =
-        by-active (λ on. fails (λ Q k y a. k .call-inside s p q l t y a (reading-of _ e refl refl) on))
+        by-active (λ on. fails (λ e. omega arith) (λ Q k y a. k .call-inside s p q l t y a (reading-of _ e refl refl) on))
         (λ off. says (λ Q k y a. k .call s p q l t y a (reading-of _ e refl refl) off))
-    command Reserved e wi = fails (λ Q k y a. k .reserved s p q l _ _ y a (reading-of _ e refl refl) (omega arith))
-    command (Refused n) e wi = fails (λ Q k y a. k .reserved s p q l _ _ y a (reading-of _ e refl refl) (omega arith))
+    command (Reserved z) e wi = reserves (λ Q k y a. k .reserved s p q l _ y a (reading-of _ e refl refl))
+    command (Refused n) e wi = reserves (λ Q k y a. k .refused s p q l _ y a (reading-of _ e refl refl))
 
   -- a word, by whether a count is awaited and whether parameters are left
   word : ReadsWord s p l → Moves s p l r
@@ -233,7 +223,7 @@ module _ (R : Setup → Pusher → PusherLoan → Pushed → Type 0) (h : Senten
   unread run n = go (beyond s p (l .words)) refl
     where
       go : (b : Bool) → beyond s p (l .words) ≡ b → Moves s p l r
-      go true e = fails (λ Q k y a. k .protection s p l y a run n (missing s p (l .words) .0 e))
+      go true e = fails (λ e. omega arith) (λ Q k y a. k .protection s p l y a run n (missing s p (l .words) .0 e))
       go false e = let at = readable s p (l .words) .0 e in word (record { running = run; unequal = n; limit = at .0; lent = at .1 })
 
   -- an entry
@@ -260,7 +250,7 @@ module _ (R : Setup → Pusher → PusherLoan → Pushed → Type 0) (h : Senten
           }
 
       there : p .ib .get < length (l .entries) → (a b : Bool) → eqb (sizeIn e) 0 ≡ a → eqb (e / 2 ^ 41 % 2) 1 ≡ b → Moves s p l r
-      there lent true b z f = fails (λ Q k y a. k .empty-entry s p l e i y a (rd lent) (eqb-true _ _ z))
+      there lent true b z f = fails (λ e. omega arith) (λ Q k y a. k .empty-entry s p l e i y a (rd lent) (eqb-true _ _ z))
       there lent false true z f = says (λ Q k y a. k .entry-not-main s p l e i y a (rd lent) (eqb-false _ _ z) (eqb-true _ _ f))
       there lent false false z f =
           let n = eqb-false (e / 2 ^ 41 % 2) 1 f in
@@ -268,7 +258,7 @@ module _ (R : Setup → Pusher → PusherLoan → Pushed → Type 0) (h : Senten
           says (λ Q k y a. k .entry-main s p l e i y a (rd lent) (eqb-false _ _ z) o)
 
       go : (b : Bool) → leb (length (l .entries)) (p .ib .get) ≡ b → Moves s p l r
-      go true f = fails (λ Q k y a. k .no-entry s p l y a nx (leb-true _ _ f))
+      go true f = fails (λ e. omega arith) (λ Q k y a. k .no-entry s p l y a nx (leb-true _ _ f))
       go false f = there (leb-false _ _ f) _ _ refl refl
 
   moved :
@@ -290,7 +280,8 @@ no-other R h s p l r m = moved R h s p l r m _ _ _ _ refl refl refl refl
 pub errors : Errors
 errors =
     record {
-      numbers = error-numbered;
+      numbers = error-stands;
+      whys = error-why;
       stopped = λ p a h. (λ on run. false≢true (sym (runs (p .error) run) ∙ sym h ∙ on), λ n. h ∙ stands (p .error) n);
     }
 

@@ -13,7 +13,7 @@ use Rattle.word.specs.Special.{presentOf}
 use Rattle.word.specs.Reading as reading
 use Rattle.word.specs.declared.reading.Reading.{Reading}
 use Rattle.word.proofs.First.{one-outcome, choose-true, choose-false, by-test}
-use Rattle.word.proofs.Told.{told}
+use Rattle.word.proofs.Told.{told-unreserved}
 use Rattle.event.specs.declared.Kind.the-variants as kind
 use Rattle.event.specs.declared.Event.the-variants.{Of}
 use Rattle.pusher.specs.Loan.{PusherLoan}
@@ -119,11 +119,13 @@ module _ (s : Setup) (p : Pusher) (l : PusherLoan) where
   parameter-is q w h = by-role submits (parameter-role (h .read)) ∙ rw (past-is s p q (h .past), h .word)
 
   -- the command is the one that has its number and values
-  pub command-is : (q : Pusher) (x : Reading) {k : ℕ} {ns : List ℕ} → CommandRead s p q l k ns → reading.number x ≡ k → reading.values x ≡ ns → pushOf s p l ≡ commanded q x
+  pub reading-is : (q : Pusher) {k : ℕ} {ns : List ℕ} (h : CommandRead s p q l k ns) → pushOf s p l ≡ commanded q (h .command)
   unfolding act
-  command-is q x h n v =
-      let command : x ≡ h .command = told x (h .command) (one-outcome n (h .number)) (one-outcome v (h .values)) in
-      by-role commands (command-role (h .read)) ∙ rw (past-is s p q (h .past), command, h .reads, h .is-word)
+  reading-is q h = by-role commands (command-role (h .read)) ∙ rw (past-is s p q (h .past), h .reads, h .is-word)
+
+  pub command-is : (q : Pusher) (x : Reading) {k : ℕ} {ns : List ℕ} → CommandRead s p q l k ns → reading.number x ≡ k → reading.values x ≡ ns → (k ≡ 9 → ⊥) → pushOf s p l ≡ commanded q x
+  command-is q x h n v c =
+      reading-is q h ∙ ap (commanded q) (sym (told-unreserved x (h .command) (one-outcome n (h .number)) (one-outcome v (h .values)) (λ e. c (sym (h .number) ∙ e))))
 
 -- a parameter
 module _ (s : Setup) (q : Pusher) (w : ℕ) where

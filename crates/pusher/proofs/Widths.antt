@@ -125,7 +125,7 @@ module _ (s : Setup) where
       (λ e.
       let four : p .get % 2 ^ 32 % 4 ≡ 0 = omega (arith, f .addresses .get .1) in
       (at-address (withSubroutine p true (p .get % 2 ^ 32)) t (with-back p true (p .get % 2 ^ 32) f (omega arith) four) (w .0) (w .1), event-fits))
-  command p Reserved f w = (f, event-fits)
+  command p (Reserved y) f w = (f, event-fits)
   command p (Refused n) f w = (f, event-fits)
 
   -- an entry

@@ -9,6 +9,7 @@ use Rattle.word.specs.First.{choose}
 use Rattle.word.specs.Parts.{bits}
 use Rattle.word.specs.Special.{presentOf}
 use Rattle.word.specs.Reading.{readOf}
+use Rattle.word.specs.declared.why.Why.the-variants as why
 use Rattle.word.specs.declared.reading.Reading.{Reading}
 use Rattle.word.specs.declared.reading.Reading.the-variants.{Increasing, NonIncreasing, Sli, Return, Long, OldJump, Jump, Call, Reserved, Refused}
 use Rattle.event.specs.declared.Kind.{Kind}
@@ -131,7 +132,7 @@ abbrev pub awaiting : Pusher → ℕ → ℕ → Pushed
 awaiting p s m =
     quietly (withRun p (record { count = p .run .count; method = m / 4; subchannel = s; increasing = false; awaited = true })) kind.Command
 
--- S13, S23: what a command does, by its form; methods are byte numbers, 4 times their number
+-- S13, S23, S33: what a command does, by its form; methods are byte numbers, 4 times their number
 unfoldable pub commanded : Pusher → Reading → Pushed
 commanded p (Increasing c s m) = begun p c s m true
 commanded p (NonIncreasing c s m) = begun p c s m false
@@ -141,8 +142,8 @@ commanded p (Long s m c) = awaiting p s m
 commanded p (OldJump t) = jumped p t
 commanded p (Jump t) = jumped p t
 commanded p (Call t) = called p t
-commanded p Reserved = failedBy p cause.ReservedCmd
-commanded p (Refused n) = failedBy p cause.ReservedCmd
+commanded p (Reserved y) = failedBy p (cause.ReservedCmd y)
+commanded p (Refused n) = failedBy p (cause.ReservedCmd why.Form)
 
 -- E3, E8: the index after another
 unfoldable pub nextIndex : ℕ → ℕ → ℕ

@@ -5,17 +5,18 @@ use mathlib.Core.Path.{_≡_}
 use mathlib.Core.Bool.{Bool, true, false}
 use mathlib.Core.List.{List, [], _∷_, map}
 use mathlib.Core.Logic.{_⊎_, _↔_}
-use mathlib.Core.Option.{Option, some}
+use mathlib.Core.Option.{Option, none, some}
 use lib.ListN.{length, getD}
 use Rattle.word.specs.Contracts.{Reads, Presents}
+use Rattle.word.specs.Why.{whyNumber}
 use Rattle.word.specs.Reading as reading
+use Rattle.word.specs.declared.why.Why.{Why}
 use Rattle.word.specs.declared.reading.Reading.{Reading}
 use Rattle.event.specs.Event as event
-use Rattle.event.specs.Promises.{StandsIn}
 use Rattle.event.specs.declared.Kind.{Kind}
 use Rattle.event.specs.declared.Kind.the-variants as kind
 use Rattle.pusher.specs.Loan.{PusherLoan, toPusher}
-use Rattle.pusher.specs.Record.{number, withGet, withPut, withRun, withCount, withMethod, withAwaited, withSubroutine, withIb, withMain, withActive}
+use Rattle.pusher.specs.Record.{number, why, withGet, withPut, withRun, withCount, withMethod, withAwaited, withSubroutine, withIb, withMain, withActive}
 use Rattle.pusher.specs.Entry.{entryOf}
 use Rattle.pusher.specs.Answers.{didNumber, didValues, Tells}
 use Rattle.pusher.specs.Contracts.{Numbers, Halts, Moves}
@@ -168,6 +169,11 @@ pub record Fails (p : Pusher) (n : ℕ) (r : Pushed) : Type 0 where
   pub pusher : Failed p n (r .pusher)
   pub did : Tells (r .did) 1 (event.number kind.Error ∷ [])
 
+-- S33: it does so by RESERVED_CMD, which has this why
+pub record Reserves (p : Pusher) (y : Option ℕ) (r : Pushed) : Type 0 where
+  pub fails : Fails p 4 r
+  pub why : why (r .pusher .error) ≡ y
+
 -- The rules as sentences, of any relation R between what a move is given and what it leaves: what changes, and nothing else does (S13).
 pub record Sentences (R : Setup → Pusher → PusherLoan → Pushed → Type 0) : Type 0 where
   -- S4: stopped, and nothing changes
@@ -291,13 +297,18 @@ pub record Sentences (R : Setup → Pusher → PusherLoan → Pushed → Type 0)
       → CommandRead s p q l 4 []
       → p .subroutine .active ≡ false
       → Fails q 3 r
-  -- S23: RESERVED_CMD: of a reserved word, number 9, and of a reading at a setting that is refused, number 10
+  -- S23, S33: RESERVED_CMD of a reserved word, number 9, with its why
   pub reserved :
-      (s : Setup) (p q : Pusher) (l : PusherLoan) (k : ℕ) (ns : List ℕ) (r : Pushed)
+      (s : Setup) (p q : Pusher) (l : PusherLoan) (ns : List ℕ) (r : Pushed)
       → R s p l r
-      → CommandRead s p q l k ns
-      → 9 ≤ k
-      → Fails q 4 r
+      → (c : CommandRead s p q l 9 ns)
+      → Reserves q (reading.why (c .command)) r
+  -- S23, S33: and of a reading at a setting that is refused, number 10, with 1, no such form
+  pub refused :
+      (s : Setup) (p q : Pusher) (l : PusherLoan) (ns : List ℕ) (r : Pushed)
+      → R s p l r
+      → CommandRead s p q l 10 ns
+      → Reserves q (some 1) r
   -- E2: PROTECTION, where ib_get stays
   pub no-entry :
       (s : Setup) (p : Pusher) (l : PusherLoan) (r : Pushed)
@@ -364,13 +375,15 @@ pub record Failing : Type 0 where
   -- S28: error 6 leaves nothing
   pub protection : (s : Setup) (p : Pusher) (l : PusherLoan) (r : Pushed) → Moves s p l r → Running p → number (r .pusher .error) ≡ 6 → Fails p 6 r
 
--- S26: the errors in order, after none.
-abbrev pub errorList : List (Option PusherError)
-errorList = map some (cause.None ∷ cause.Call ∷ cause.NonCache ∷ cause.Return ∷ cause.ReservedCmd ∷ cause.Ib ∷ cause.Protection ∷ [])
+-- S26: the errors in order, after none, RESERVED_CMD with a why.
+abbrev pub errorList : Why → List (Option PusherError)
+errorList y = map some (cause.None ∷ cause.Call ∷ cause.NonCache ∷ cause.Return ∷ cause.ReservedCmd y ∷ cause.Ib ∷ cause.Protection ∷ [])
 
--- S26, S4: every error stands there, by its number; and `stopped` says so of each, and of none it does not
+-- S26, S33, S4: every error stands there, by its number, whatever the why if it has none, and else with its own; 4 has one, and no
+-- other has; and `stopped` says so of each, and of none it does not
 pub record Errors : Type 0 where
-  pub numbers : StandsIn errorList number
+  pub numbers : (e : PusherError) (y : Why) → (why e ≡ none) ⊎ (why e ≡ some (whyNumber y)) → getD (errorList y) (number e) none ≡ some e
+  pub whys : (e : PusherError) → why e ≡ none ↔ (number e ≡ 4 → ⊥)
   pub stopped : (p : Pusher) (a : Bool) → Halts p a → a ≡ true ↔ (Running p → ⊥)
 
 -- The pusher, or its run, with one thing changed, as the sentences say it: that and nothing else.

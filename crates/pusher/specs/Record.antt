@@ -1,7 +1,9 @@
 -- The pusher's record: its errors' numbers, and the record, or its run, with one thing changed.
 use Prim.Native.Nat.{ℕ}
 use mathlib.Core.Bool.{Bool, not}
+use mathlib.Core.Option.{Option, none, some}
 use lib.Dec.{eqb}
+use Rattle.word.specs.Why.{whyNumber}
 use Rattle.pusher.specs.declared.record.PusherError.{PusherError}
 use Rattle.pusher.specs.declared.record.PusherError.the-variants as cause
 use Rattle.pusher.specs.declared.record.Run.{Run}
@@ -14,9 +16,19 @@ number cause.None = 0
 number cause.Call = 1
 number cause.NonCache = 2
 number cause.Return = 3
-number cause.ReservedCmd = 4
+number (cause.ReservedCmd y) = 4
 number cause.Ib = 5
 number cause.Protection = 6
+
+-- S33: the number of its why, which RESERVED_CMD alone has
+unfoldable pub why : PusherError → Option ℕ
+why cause.None = none
+why cause.Call = none
+why cause.NonCache = none
+why cause.Return = none
+why (cause.ReservedCmd y) = some (whyNumber y)
+why cause.Ib = none
+why cause.Protection = none
 
 -- S4, S27: an error stops the pusher
 unfoldable pub halts : PusherError → Bool

@@ -16,6 +16,7 @@ use event::Kind;
 use event::Method;
 use word::Mode;
 use word::Reading;
+use word::Why;
 use word::present;
 use word::read;
 
@@ -217,7 +218,8 @@ fn one_word(pusher: Pusher, reading: Reading) -> Pushed
         Reading::OldJump { target } => jump(pusher, target),
         Reading::Jump { target } => jump(pusher, target),
         Reading::Call { target } => call(pusher, target),
-        _ => failed(pusher, PusherError::ReservedCmd),
+        Reading::Reserved { why } => failed(pusher, PusherError::ReservedCmd { why }),
+        _ => failed(pusher, PusherError::ReservedCmd { why: Why::Form }),
     }
 }
 

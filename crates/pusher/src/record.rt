@@ -3,6 +3,7 @@ ghost use mathlib.Core.Path.{_≡_};
 ghost use Rattle.pusher.specs.Record.{withError};
 ghost use Rattle.pusher.specs.Contracts.{Numbers, Halts};
 use word::Setting;
+use word::Why;
 
 // What is set once, at opening. `order` is ib_order, `limit` dma_limit.
 pub struct Setup {
@@ -11,13 +12,13 @@ pub struct Setup {
     pub limit: u32,
 }
 
-// What stopped the pusher.
+// What stopped the pusher; of a reserved word, why it is that.
 pub enum PusherError {
     None,
     Call,
     NonCache,
     Return,
-    ReservedCmd,
+    ReservedCmd { why: Why },
     Ib,
     Protection,
 }
@@ -44,7 +45,7 @@ impl PusherError {
             PusherError::Call => PusherError::CALL,
             PusherError::NonCache => PusherError::NON_CACHE,
             PusherError::Return => PusherError::RETURN,
-            PusherError::ReservedCmd => PusherError::RESERVED_CMD,
+            PusherError::ReservedCmd { .. } => PusherError::RESERVED_CMD,
             PusherError::Ib => PusherError::IB,
             PusherError::Protection => PusherError::PROTECTION,
         }

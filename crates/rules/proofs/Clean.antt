@@ -24,7 +24,7 @@ use Rattle.rules.specs.Path.{Next}
 use Rattle.rules.specs.Promises.{Permitted}
 use Rattle.rules.specs.declared.pair.Pair.{Pair}
 use Rattle.rules.specs.declared.judging.Verdict.{Verdict}
-use Rattle.rules.specs.declared.judging.Verdict.the-variants.{Accepted, Rejected, Refused}
+use Rattle.rules.specs.declared.judging.Verdict.the-variants.{Accepted, Rejected, Refused, Reserved}
 use Rattle.rules.proofs.Parts.{permits-plain}
 use Rattle.rules.proofs.Cases.{Arrived, quiet}
 
@@ -34,12 +34,14 @@ unfolding firstOf
 either-first P Accepted w a b = b
 either-first P (Rejected r p) w a b = a
 either-first P (Refused n) w a b = a
+either-first P (Reserved y p) w a b = a
 
 both-accept : (v w : Verdict) → firstOf v w ≡ Accepted → (v ≡ Accepted) × (w ≡ Accepted)
 unfolding firstOf
 both-accept Accepted w e = (refl, e)
 both-accept (Rejected r p) w e = let z : _≡_ {A = ℕ} 0 1 = cc in absurd (omega arith)
 both-accept (Refused n) w e = let z : _≡_ {A = ℕ} 0 1 = cc in absurd (omega arith)
+both-accept (Reserved y p) w e = let z : _≡_ {A = ℕ} 0 1 = cc in absurd (omega arith)
 
 module _ (x : Submission) (map : List ℕ) where
   -- a pair at which a command starts by the map, or the end, in main

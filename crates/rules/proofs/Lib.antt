@@ -20,6 +20,7 @@ pub mod Counted
 pub mod Small
 pub mod Promises
 pub mod Reasons
+pub mod Whys
 pub mod NoneWraps
 pub mod Moving
 pub mod SoundMoves

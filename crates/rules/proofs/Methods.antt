@@ -17,7 +17,7 @@ use Rattle.word.specs.declared.reading.Reading.the-variants.{Increasing, NonInc
 use Rattle.word.proofs.First.{by-test}
 use Rattle.word.proofs.Lowest.{none-found}
 use Rattle.word.proofs.Tests.{and-plain, less-plain}
-use Rattle.word.proofs.Told.{told}
+use Rattle.word.proofs.Told.{told-unreserved}
 use Rattle.rules.specs.Parameters.{methodsOf, methodFor, wraps, anyFails, lacking, denied}
 use Rattle.rules.specs.Reasons.{GoesTo, increasing, non-increasing, long, WrapsPlain}
 use Rattle.rules.specs.declared.parameters.Methods.{Methods}
@@ -34,27 +34,27 @@ goes-to (Long b m c) k l = long m c refl refl l refl
 goes-to (OldJump t) k l = absurd (omega arith)
 goes-to (Jump t) k l = absurd (omega arith)
 goes-to (Call t) k l = absurd (omega arith)
-goes-to Reserved k l = absurd (omega arith)
+goes-to (Reserved y) k l = absurd (omega arith)
 goes-to (Refused r) k l = absurd (omega arith)
 
 pub goes-only : (d : Reading) (k b n : ℕ) → GoesTo d k b n → (k < parameterCount d) × (b ≡ methodsOf d .subchannel) × (n ≡ methodFor (methodsOf d) k)
 unfolding number values parameterCount methodsOf methodFor choose
-goes-only d k b n (increasing c m e v l is) = rw (told d (Increasing c b m) e v) (l, refl, is)
-goes-only d k b n (non-increasing c m e v l is) = rw (told d (NonIncreasing c b m) e v) (l, refl, is)
-goes-only d k b n (long m c e v l is) = rw (told d (Long b m c) e v) (l, refl, is)
+goes-only d k b n (increasing c m e v l is) = rw (told-unreserved d (Increasing c b m) e v (λ nine. omega arith)) (l, refl, is)
+goes-only d k b n (non-increasing c m e v l is) = rw (told-unreserved d (NonIncreasing c b m) e v (λ nine. omega arith)) (l, refl, is)
+goes-only d k b n (long m c e v l is) = rw (told-unreserved d (Long b m c) e v (λ nine. omega arith)) (l, refl, is)
 
 -- What wraps is an increasing command with a parameter, since that goes somewhere.
 over : (d : Reading) {k b n : ℕ} → GoesTo d k b n → methodsOf d .increasing ≡ true → 2048 < methodsOf d .method + parameterCount d → WrapsPlain d
 unfolding number values parameterCount methodsOf
-over d {k} {b} {n} (increasing c m e v l is) up past = (c, b, m, e, v, omega arith, rw (told d (Increasing c b m) e v) at past)
-over d {k} {b} {n} (non-increasing c m e v l is) up past = absurd (false≢true (rw (told d (NonIncreasing c b m) e v) at up))
-over d {k} {b} {n} (long m c e v l is) up past = absurd (false≢true (rw (told d (Long b m c) e v) at up))
+over d {k} {b} {n} (increasing c m e v l is) up past = (c, b, m, e, v, omega arith, rw (told-unreserved d (Increasing c b m) e v (λ nine. omega arith)) at past)
+over d {k} {b} {n} (non-increasing c m e v l is) up past = absurd (false≢true (rw (told-unreserved d (NonIncreasing c b m) e v (λ nine. omega arith)) at up))
+over d {k} {b} {n} (long m c e v l is) up past = absurd (false≢true (rw (told-unreserved d (Long b m c) e v (λ nine. omega arith)) at up))
 
 pub wraps-plain : (d : Reading) → wraps d ≡ true ↔ WrapsPlain d
 unfolding number values parameterCount methodsOf wraps
 wraps-plain d =
     let parts = and-plain (methodsOf d .increasing) _ Iff·rfl (and-plain (ltb 0 (parameterCount d)) _ (less-plain 0 _) (less-plain 2048 _)) in
-    (λ e. let h = parts .0 e in over d (goes-to d 0 (h .1 .0)) (h .0) (h .1 .1), λ (c, b, m, e, v, some, past). parts .1 (rw (told d (Increasing c b m) e v) (refl, (some, past))))
+    (λ e. let h = parts .0 e in over d (goes-to d 0 (h .1 .0)) (h .0) (h .1 .1), λ (c, b, m, e, v, some, past). parts .1 (rw (told-unreserved d (Increasing c b m) e v (λ nine. omega arith)) (refl, (some, past))))
 
 -- no level lacks a method from 0x100 up, where the first of n is none below, and they don't go past 0x1ffc
 pub above-special : (ms : Methods) (n : ℕ) → 0x40 ≤ ms .method → ms .increasing && ltb 2048 (ms .method + n) ≡ false → (level : ℕ) → anyFails (presentOf level) ms n ≡ false

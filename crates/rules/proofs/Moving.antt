@@ -181,7 +181,7 @@ module _ (x : Submission) (map : List ℕ) where
           quiet-after _ kind.Command
           (between p t (t / 4) inside ((p .get + 4) % 2 ^ 32) i z (omega arith) (f .next _ _ (rw (← e) (inl (refl, refl))))
           (λ _. (i .place + 1, omega (arith, i .address), f .next _ _ (rw (← e) (inr (inl (refl, refl))))))))
-      command-after Reserved e w = absurd (false≢true (sym (rw (← e) at (f .command))))
+      command-after (Reserved y) e w = absurd (false≢true (sym (rw (← e) at (f .command))))
       command-after (Refused r) e w = absurd (false≢true (sym (rw (← e) at (f .command))))
 
     -- a parameter: the run has one less

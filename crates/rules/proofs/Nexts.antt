@@ -64,7 +64,7 @@ nexts-plain (Long b m c) p s = nowhere p s (Long b m c) (omega arith) (λ l. ome
 nexts-plain (OldJump t) p s = jumps p s (OldJump t) t (omega arith) (omega arith) refl
 nexts-plain (Jump t) p s = jumps p s (Jump t) t (omega arith) (omega arith) refl
 nexts-plain (Call t) p s = calls p s (Call t) t refl refl
-nexts-plain Reserved p s = nowhere p s Reserved (omega arith) (λ l. omega arith)
+nexts-plain (Reserved y) p s = nowhere p s (Reserved y) (omega arith) (λ l. omega arith)
 nexts-plain (Refused r) p s = nowhere p s (Refused r) (omega arith) (λ l. omega arith)
 
 -- the answer gives them, and they are at most two
@@ -82,5 +82,5 @@ at-most-two (Long b m c) p s = omega arith
 at-most-two (OldJump t) p s = omega arith
 at-most-two (Jump t) p s = omega arith
 at-most-two (Call t) p s = omega arith
-at-most-two Reserved p s = omega arith
+at-most-two (Reserved y) p s = omega arith
 at-most-two (Refused r) p s = omega arith

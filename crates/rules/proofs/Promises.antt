@@ -23,7 +23,7 @@ use Rattle.rules.specs.declared.judging.FirstRefused.the-variants.{Nothi
 use Rattle.rules.specs.declared.judging.Verdict.{Verdict}
 use Rattle.rules.specs.declared.judging.Judgement.{Judgement}
 use Rattle.word.proofs.Bytes.{words-length}
-use Rattle.rules.proofs.Answers.{accepts}
+use Rattle.rules.proofs.Answers.{accepts, refusal-kept, accepted-kept}
 use Rattle.rules.proofs.Table.{lengths-plain, judge-agree, none-told, Fits, unrefused, fits, passed}
 use Rattle.rules.proofs.Counted.{count-pairs}
 use Rattle.rules.proofs.Clean.{one-of-three, clean}
@@ -82,7 +82,7 @@ module _ (x : Submission) (map : List ℕ) where
 
 module _ (most level : ℕ) (sli : Bool) (bytes map list : List ℕ) (r : Judgement) (j : r ≡ judgeUpTo most level sli bytes map list) where
   judged-tells : tells (judged level sli bytes map list) ≡ none
-  judged-tells = verdict-tells (submission (settingOf level sli) bytes list) map
+  judged-tells = let x = submission (settingOf level sli) bytes list in refusal-kept x (verdictOf x map) ∙ verdict-tells x map
 
   exactly : (n : ℕ) → tells r ≡ some n ↔ FirstIs (judgePlain most level sli bytes map list) n
   unfolding judgeUpTo
@@ -122,7 +122,7 @@ complete level sli bytes map list r h j s fair exact =
     let count = words-length bytes in
     let same = exact .bytes in
     let told = sized _ level sli bytes map list r j (s .level-fits) (s .sli-fits) (s .words) (s .whole) (omega arith) (s .permit) in
-    (accepts (r .verdict) .1 (rw (judged-is _ level sli bytes map list r j told) (complete-verdict x map exact fair)), counted level sli bytes map list r h j told)
+    (accepts (r .verdict) .1 (rw (judged-is _ level sli bytes map list r j told) (accepted-kept x (verdictOf x map) .1 (complete-verdict x map exact fair))), counted level sli bytes map list r h j told)
 
 pub none-bad : NoneBad
 none-bad level sli bytes map list r j a p b =

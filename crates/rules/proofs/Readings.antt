@@ -4,14 +4,16 @@ use mathlib.Core.Path.{_≡_, refl, ap, _∙_}
 use mathlib.Core.Bool.{Bool, true, false, not, _&&_, _||_}
 use mathlib.Core.List.{List, [], _∷_}
 use mathlib.Core.Logic.{inl, inr}
+use mathlib.Core.Option.{none}
 use types.Run.{OneOf, miss}
 use denote.Enum.Declared.{tagOf}
 use lib.Dec.{eqb, leb}
-use borrow.Author.Tests.{not-true}
-use Rattle.word.specs.Reading.{number, parameterCount}
+use borrow.Author.Tests.{not-true, eqb-false}
+use Rattle.word.specs.Reading.{number, why, parameterCount}
 use Rattle.word.specs.declared.reading.Reading.{Reading}
 use Rattle.word.specs.declared.reading.Reading.the-variants.{Increasing, NonIncreasing, Sli, Return, Long, OldJump, Jump, Call, Reserved, Refused}
 use Rattle.word.proofs.reading.Reading.{the-type}
+use Rattle.word.proofs.Told.{no-why-of}
 use Rattle.word.proofs.Tests.{both}
 use Rattle.rules.specs.Parameters.{noMethods, methodsOf}
 use Rattle.rules.specs.Next.{nexts, held}
@@ -28,7 +30,7 @@ tag-number (Long s m c) = refl
 tag-number (OldJump t) = refl
 tag-number (Jump t) = refl
 tag-number (Call t) = refl
-tag-number Reserved = refl
+tag-number (Reserved y) = refl
 tag-number (Refused r) = refl
 
 -- whether a test of numbers holds at each of a list of tags; then it holds at a number whose tag is one of them
@@ -55,6 +57,14 @@ pub not-reserved : (r : Reading) → OneOf (0 ∷ 1 ∷ 2 ∷ 3 ∷ 5 ∷ 6 ∷ 
 unfolding reserved? atEach
 not-reserved r o = not-true _ (by-tag (λ n. not (eqb n 5 || leb 9 n)) (0 ∷ 1 ∷ 2 ∷ 3 ∷ 5 ∷ 6 ∷ 7 ∷ []) refl r o)
 
+-- what a `let .. else` on 'reserved' leaves has no why
+abbrev unreserved : List ℕ
+unreserved = 0 ∷ 1 ∷ 2 ∷ 3 ∷ 4 ∷ 5 ∷ 6 ∷ 7 ∷ 9 ∷ []
+
+pub none-said : (r : Reading) → OneOf unreserved (tagOf the-type r) → why r ≡ none
+unfolding atEach
+none-said r o = no-why-of r (eqb-false (number r) 9 (not-true _ (by-tag (λ n. not (eqb n 9)) unreserved refl r o)))
+
 -- no call, and no return
 pub no-call : (r : Reading) → OneOf (0 ∷ 1 ∷ 2 ∷ 3 ∷ 4 ∷ 5 ∷ 6 ∷ 8 ∷ 9 ∷ []) (tagOf the-type r) → call? r ≡ false
 unfolding call? atEach
@@ -78,7 +88,7 @@ no-parameters (Long s m c) h = absurd (miss noRun 4 tt h)
 no-parameters (OldJump t) h = (refl, refl)
 no-parameters (Jump t) h = (refl, refl)
 no-parameters (Call t) h = (refl, refl)
-no-parameters Reserved h = (refl, refl)
+no-parameters (Reserved y) h = (refl, refl)
 no-parameters (Refused r) h = (refl, refl)
 
 -- neither a run nor SLI conditional, a jump or a call: the words go on nowhere
@@ -95,5 +105,5 @@ goes-nowhere (Long b m c) h p s = refl
 goes-nowhere (OldJump t) h p s = absurd (miss stops 5 tt h)
 goes-nowhere (Jump t) h p s = absurd (miss stops 6 tt h)
 goes-nowhere (Call t) h p s = absurd (miss stops 7 tt h)
-goes-nowhere Reserved h p s = refl
+goes-nowhere (Reserved y) h p s = refl
 goes-nowhere (Refused r) h p s = refl

@@ -15,7 +15,7 @@ use Rattle.word.specs.Reading.{number, parameterCount}
 use Rattle.word.specs.Special.{presentOf}
 use Rattle.word.specs.Contracts.{Presents}
 use Rattle.word.specs.declared.reading.Reading.{Reading}
-use Rattle.word.proofs.First.{Agree, first-is, choose-true}
+use Rattle.word.proofs.First.{by-test, Agree, first-is, choose-true}
 use Rattle.word.proofs.Lowest.{lowest-some}
 use Rattle.word.proofs.Tests.{not-plain, or-plain, and-plain, less-plain, equal-plain, most-plain}
 use Rattle.rules.specs.Permit.{permits}
@@ -24,7 +24,7 @@ use Rattle.rules.specs.Parameters.{placeAfter, methodsOf, methodFor, any
 use Rattle.rules.specs.Next.{_in-state_, nexts}
 use Rattle.rules.specs.Reason.{MAP_BYTE, NO_START, MARKED_PARAMETER, reserved?, call?, return?, ownCases, arrivalCases, nextCases, byMap, noMap, commandCases, Submission, submission, size, commandAt, firstReason, reasonAt, findingOf}
 use Rattle.rules.specs.Judging.{firstOf, placeVerdict, startVerdict, atMark, placeOf, stateOf, refusedPair, refusedAt, numberedPair, firstRefused, pairVerdict, verdictOf, settingOf}
-use Rattle.rules.specs.Answers.{findingNumber}
+use Rattle.rules.specs.Answers.{findingNumber, verdictWhy}
 use Rattle.rules.specs.Promises.{Permitted}
 use Rattle.rules.specs.Reasons.{Marks, GoesTo, ownPlain, AmongPlain, arrivalPlain, nextPlain, commandPlain, pairPlain, WideByte, NoneWide, NoStart, Earlier, FirstPair, Against, Reasons, FirstPairs, AtOnePair}
 use Rattle.rules.specs.declared.pair.Pair.{Pair}
@@ -34,13 +34,13 @@ use Rattle.rules.specs.declared.judging.FirstRefused.{FirstRefused}
 use Rattle.rules.specs.declared.judging.FirstRefused.the-variants.{Nothing, At}
 use Rattle.rules.specs.declared.judging.Verdict.{Verdict}
 use Rattle.rules.specs.declared.judging.Verdict.the-variants.{Accepted, Rejected}
-use Rattle.rules.proofs.Answers.{told-rejected, told-refused, finding-tells, none-tells}
+use Rattle.rules.proofs.Answers.{told-rejected, number-kept, values-kept, told-refused, finding-tells, none-tells}
 use Rattle.rules.proofs.Scans.{found-plain}
 use Rattle.rules.proofs.Parts.{permits-plain}
 use Rattle.rules.proofs.Methods.{goes-to, goes-only, wraps-plain}
 use Rattle.rules.proofs.Cases.{none-own, arrived, quiet}
 use Rattle.rules.proofs.Nexts.{nexts-plain, gives}
-use Rattle.rules.proofs.Clean.{numbered, none-wide, mark-none}
+use Rattle.rules.proofs.Clean.{numbered, none-wide, mark-none, one-of-three}
 use Rattle.rules.proofs.Promises.{judged-fits, judged-is}
 
 -- equal rejections have one reason and one place, and equal refused pairs are one pair with one reason
@@ -309,13 +309,28 @@ module _ (x : Submission) (map : List ℕ) (same : length map ≡ size x) where
       back (inr (narrow, inl h)) = then-start (none-wide x map .1 (λ q l. narrow q)) ∙ rw (start-plain .1 (h .2), h .0, h .1)
       back (inr (narrow, inr h)) = then-start (none-wide x map .1 (λ q l. narrow q)) ∙ rw (started (h .0)) (pair-verdict x map n p .1 (h .1))
 
+-- what the pairs are judged by says no why yet
+place-mute : (o : Option ℕ) → verdictWhy (placeVerdict o) ≡ none
+unfolding placeVerdict verdictWhy
+place-mute none = refl
+place-mute (some p) = refl
+
+pair-mute : (f : FirstRefused) → verdictWhy (pairVerdict f) ≡ none
+unfolding pairVerdict verdictWhy
+pair-mute Nothing = refl
+pair-mute (At r q) = refl
+
+pub no-why : (x : Submission) (map : List ℕ) → verdictWhy (verdictOf x map) ≡ none
+unfolding startVerdict verdictWhy
+no-why x map = one-of-three x map (λ v. verdictWhy v ≡ none) (place-mute _) (by-test (λ (v : Verdict). verdictWhy v ≡ none) (λ e. refl) (λ e. refl)) (pair-mute _)
+
 pub reasons : Reasons
 reasons level sli bytes map list r j e n p =
     let x = submission (settingOf level sli) bytes list in
     let is = judged-is _ level sli bytes map list r j e in
     let plain = verdict-plain x map (judged-fits _ level sli bytes map list r j e .bytes-map) n p in
-    let told = told-rejected (verdictOf x map) n p in
-    rw is (λ h. plain .0 (told .0 h), λ h. told .1 (plain .1 h))
+    let told = told-rejected (verdictOf x map) n p (no-why x map) in
+    rw (is, number-kept x (verdictOf x map), values-kept x (verdictOf x map)) (λ h. plain .0 (told .0 h), λ h. told .1 (plain .1 h))
 
 -- what is found is the first condition that holds
 found-is : (cs : List Case) (ps : List PlainCase) → Agree cs ps → (r : Finding) → r ≡ findingOf (first cs) → (n : ℕ) → findingNumber r ≡ some n ↔ FirstIs ps n

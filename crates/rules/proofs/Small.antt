@@ -19,11 +19,11 @@ use Rattle.rules.specs.Permit.{setBits, countOf}
 use Rattle.rules.specs.Map.{marked, overThree, unmarked}
 use Rattle.rules.specs.Next.{_in-state_, nexts}
 use Rattle.rules.specs.Reason.{nextCases, byMap, commandCases, Submission, submission, size, commandAt, firstReason, reasonAt}
-use Rattle.rules.specs.Judging.{placeVerdict, startVerdict, atMark, placeOf, stateOf, refusedPair, refusedAt, numberedPair, firstRefused, pairVerdict, verdictOf, judgeCases, refusing, settingOf, judged, judgeUpTo}
+use Rattle.rules.specs.Judging.{placeVerdict, startVerdict, atMark, placeOf, stateOf, refusedPair, refusedAt, numberedPair, firstRefused, pairVerdict, verdictOf, withWhy, judgeCases, refusing, settingOf, judged, judgeUpTo}
 use Rattle.rules.specs.Promises.{Bytes}
 use Rattle.rules.specs.declared.pair.Pair.{Pair}
 use Rattle.rules.specs.declared.judging.Verdict.{Verdict}
-use Rattle.rules.specs.declared.judging.Verdict.the-variants.{Accepted, Rejected, Refused}
+use Rattle.rules.specs.declared.judging.Verdict.the-variants.{Accepted, Rejected, Refused, Reserved}
 use Rattle.rules.proofs.Table.{fits}
 use Rattle.rules.proofs.Clean.{one-of-three}
 
@@ -54,6 +54,7 @@ abbrev pub Small : Verdict → Type 0
 Small Accepted = Unit {0}
 Small (Rejected r p) = (0 < r .number) × (r .number < 2 ^ 8) × (p < 2 ^ 24)
 Small (Refused n) = (0 < n .number) × (n .number < 2 ^ 8)
+Small (Reserved y p) = p < 2 ^ 24
 
 module _ (x : Submission) (map : List ℕ) (words : size x ≤ 2 ^ 24) where
   place-small : (o : Option ℕ) → lowest (overThree map) (size x) ≡ o → Small (placeVerdict o)
@@ -91,6 +92,14 @@ module _ (x : Submission) (map : List ℕ) (words : size x ≤ 2 ^ 24) where
   unfolding firstRefused
   verdict-small = one-of-three x map Small (place-small _ refl) start-small (pair-small _ refl)
 
+  -- so too with the why of reason 3
+  why-small : (v : Verdict) → Small v → Small (withWhy x v)
+  unfolding withWhy
+  why-small Accepted s = s
+  why-small (Rejected r p) s = by-test Small (λ t. s .2) (λ t. s)
+  why-small (Refused n) s = s
+  why-small (Reserved y p) s = s
+
 -- no byte has more than eight set bits
 count-small : (list : List ℕ) → Bytes list → (n : ℕ) → setBits list n ≤ 8 * n
 unfolding setBits
@@ -113,5 +122,7 @@ module _ (most level : ℕ) (sli : Bool) (bytes map list : List ℕ) (few : most
           → Small (refusedOr refusing o (judged level sli bytes map list) .verdict) × (refusedOr refusing o (judged level sli bytes map list) .count < 2 ^ 16)
       go none e =
           let c = count-small list narrow 2048 in
-          (verdict-small (submission (settingOf level sli) bytes list) map (omega (arith, fits most level sli bytes map list e .words)), omega arith)
+          let x = submission (settingOf level sli) bytes list in
+          let few-words : size x ≤ 2 ^ 24 = omega (arith, fits most level sli bytes map list e .words) in
+          (why-small x map few-words (verdictOf x map) (verdict-small x map few-words), omega arith)
       go (some n) e = (first-byte (judgeCases most level sli bytes map list) n table-bytes e, omega arith)

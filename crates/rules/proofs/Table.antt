@@ -22,7 +22,7 @@ use Rattle.rules.specs.Promises.{BadLengths, judgePlain, Sized}
 use Rattle.rules.specs.declared.judging.Verdict.the-variants.{Accepted}
 use Rattle.rules.specs.declared.judging.Judgement.{Judgement}
 use Rattle.word.proofs.Bytes.{words-length}
-use Rattle.rules.proofs.Answers.{accepts}
+use Rattle.rules.proofs.Answers.{accepts, accepted-kept}
 
 -- where no plain condition holds, nothing is refused
 none-first : (ps : List PlainCase) → NoneOf ps → (n : ℕ) → FirstIs ps n → ⊥
@@ -113,7 +113,7 @@ module _ (most level : ℕ) (sli : Bool) (bytes map list : List ℕ) where
           → first (judgeCases most level sli bytes map list) ≡ o
           → refusedOr refusing o (judged level sli bytes map list) .verdict ≡ Accepted
           → Fits × (verdictOf (submission (settingOf level sli) bytes list) map ≡ Accepted)
-      go none e h = (fits e, h)
+      go none e h = (fits e, accepted-kept (submission (settingOf level sli) bytes list) _ .0 h)
       go (some n) e h = let z : _≡_ {A = ℕ} 0 1 = cc in absurd (omega arith)
 
 -- what the gatekeeper's table does not refuse is what `Complete` speaks of

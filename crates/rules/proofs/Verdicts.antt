@@ -9,20 +9,24 @@ use lib.Dec.{ltb}
 use lib.ListN.{length, getD}
 use types.Run.{OneOf, miss}
 use denote.Enum.Declared.{tagOf}
-use borrow.Author.Tests.{lt-ltb, le-ltb, ltb-true, ltb-false}
+use borrow.Author.Tests.{lt-ltb, le-ltb, ltb-true, ltb-false, eq-eqb, ne-eqb}
 use Rattle.word.specs.Lowest.{lowest, found?}
+use Rattle.word.specs.Why.{whyOf}
+use Rattle.word.specs.Reading.{why}
+use Rattle.word.specs.declared.why.Why.{Why}
+use Rattle.word.proofs.First.{choose-true, choose-false}
 use Rattle.word.proofs.Lowest.{lowest-none, lowest-some}
 use Rattle.rules.specs.Map.{overThree}
 use Rattle.rules.specs.Next.{_in-state_}
-use Rattle.rules.specs.Reason.{MAP_BYTE, Submission, size, findingOf}
-use Rattle.rules.specs.Judging.{firstOf, placeVerdict, startVerdict, atMark, placeOf, stateOf, refusedPair, refusedAt, numberedPair, firstRefused, pairVerdict, verdictOf}
+use Rattle.rules.specs.Reason.{MAP_BYTE, RESERVED, Submission, size, commandAt, findingOf}
+use Rattle.rules.specs.Judging.{firstOf, placeVerdict, startVerdict, atMark, placeOf, stateOf, refusedPair, refusedAt, numberedPair, firstRefused, pairVerdict, verdictOf, withWhy}
 use Rattle.rules.specs.declared.pair.Pair.{Pair}
 use Rattle.rules.specs.declared.reason.Reason.{Reason}
 use Rattle.rules.specs.declared.reason.Finding.{Finding}
 use Rattle.rules.specs.declared.reason.Finding.the-variants as finding
 use Rattle.rules.specs.declared.judging.FirstRefused.the-variants.{Nothing, At}
 use Rattle.rules.specs.declared.judging.Verdict.{Verdict}
-use Rattle.rules.specs.declared.judging.Verdict.the-variants.{Accepted, Rejected, Refused}
+use Rattle.rules.specs.declared.judging.Verdict.the-variants.{Accepted, Rejected, Refused, Reserved}
 use Rattle.rules.proofs.judging.Verdict.{the-type}
 use Rattle.rules.proofs.Scans.{Passed, onward, met, unmet}
 use Rattle.rules.proofs.Clean.{unstarted, mark-none}
@@ -107,13 +111,35 @@ refused-within x map {r} {q} e = go (lowest (refusedPair x map) (2 * size x)) re
 
 -- what a `let .. else` leaves is no acceptance, and stands whatever follows
 abbrev others : List ℕ
-others = 1 ∷ 2 ∷ []
+others = 1 ∷ 2 ∷ 3 ∷ []
 
 stands : (v w : Verdict) → OneOf others (tagOf the-type v) → firstOf v w ≡ v
 unfolding firstOf
 stands Accepted w h = absurd (miss others 0 tt h)
 stands (Rejected r p) w h = refl
 stands (Refused n) w h = refl
+stands (Reserved y p) w h = refl
+
+-- The why of reason 3. What a `let .. else` on a rejection leaves stays,
+abbrev unrejected : List ℕ
+unrejected = 0 ∷ 2 ∷ 3 ∷ []
+
+pub as-it-is : (x : Submission) (v : Verdict) → OneOf unrejected (tagOf the-type v) → v ≡ withWhy x v
+unfolding withWhy
+as-it-is x Accepted h = refl
+as-it-is x (Rejected r p) h = absurd (miss unrejected 1 tt h)
+as-it-is x (Refused n) h = refl
+as-it-is x (Reserved y p) h = refl
+
+-- so does a rejection for another reason, and reason 3 has the why of the word at its place
+module _ (x : Submission) {v : Verdict} {r : Reason} {p : ℕ} (is : v ≡ Rejected r p) where
+  pub other-reason : (r .number ≡ RESERVED → ⊥) → v ≡ withWhy x v
+  unfolding withWhy
+  other-reason h = rw is (sym (choose-false (ne-eqb _ _ h) _ _))
+
+  pub reserved-reason : r .number ≡ RESERVED → {y : Why} → y ≡ whyOf (why (commandAt x p)) → Reserved y p ≡ withWhy x v
+  unfolding withWhy
+  reserved-reason h e = rw is (ap (λ (z : Why). Reserved z p) e ∙ sym (choose-true (eq-eqb _ _ h) _ _))
 
 -- The three verdicts together, where the map has a byte for each word.
 module _ (x : Submission) (map : List ℕ) (whole : size x ≡ length map) {b : Verdict} (bytes : b ≡ placeVerdict (lowest (overThree map) (length map))) where

@@ -7,18 +7,20 @@ use lib.Dec.{eqb, ltb}
 use lib.ListN.{length}
 use Rattle.word.specs.First.{choose, Case, first, _when_}
 use Rattle.word.specs.Lowest.{lowest, found?}
+use Rattle.word.specs.Why.{whyOf}
+use Rattle.word.specs.Reading.{why}
 use Rattle.word.specs.Setting.{LEVEL, SLI, SIZE, LENGTH, levelRefused, sliRefused, refusedOr}
 use Rattle.word.specs.declared.setting.Refusal.{Refusal}
 use Rattle.word.specs.declared.setting.Setting.{Setting}
 use Rattle.rules.specs.Permit.{countOf}
 use Rattle.rules.specs.Map.{main, marked, overThree}
 use Rattle.rules.specs.Next.{_in-state_}
-use Rattle.rules.specs.Reason.{MAP_BYTE, NO_START, Submission, submission, size, reasonAt}
+use Rattle.rules.specs.Reason.{MAP_BYTE, NO_START, RESERVED, Submission, submission, size, commandAt, reasonAt}
 use Rattle.rules.specs.declared.pair.Pair.{Pair}
 use Rattle.rules.specs.declared.judging.FirstRefused.{FirstRefused}
 use Rattle.rules.specs.declared.judging.FirstRefused.the-variants.{Nothing, At}
 use Rattle.rules.specs.declared.judging.Verdict.{Verdict}
-use Rattle.rules.specs.declared.judging.Verdict.the-variants.{Accepted, Rejected, Refused}
+use Rattle.rules.specs.declared.judging.Verdict.the-variants.{Accepted, Rejected, Refused, Reserved}
 use Rattle.rules.specs.declared.judging.Judgement.{Judgement}
 
 -- R9: the lengths of words, map and list that don't fit
@@ -39,6 +41,7 @@ unfoldable pub firstOf : Verdict → Verdict → Verdict
 firstOf Accepted v = v
 firstOf (Rejected r p) v = Rejected r p
 firstOf (Refused n) v = Refused n
+firstOf (Reserved y p) v = Reserved y p
 
 -- G1: a byte over 3, at its place
 unfoldable pub placeVerdict : Option ℕ → Verdict
@@ -87,6 +90,13 @@ verdictOf x map =
     firstOf (placeVerdict (lowest (overThree map) (size x)))
     (firstOf (startVerdict map) (pairVerdict (firstRefused x map)))
 
+-- G40: reason 3 says why the word at its place is reserved; the rest of a verdict stays
+unfoldable pub withWhy : Submission → Verdict → Verdict
+withWhy x Accepted = Accepted
+withWhy x (Rejected r p) = choose (eqb (r .number) RESERVED) (Reserved (whyOf (why (commandAt x p))) p) (Rejected r p)
+withWhy x (Refused n) = Refused n
+withWhy x (Reserved y p) = Reserved y p
+
 -- G24: a refusal has count 0
 abbrev pub refusing : Refusal → Judgement
 refusing n = record { verdict = Refused n; count = 0 }
@@ -95,9 +105,11 @@ refusing n = record { verdict = Refused n; count = 0 }
 abbrev pub settingOf : ℕ → Bool → Setting
 settingOf level sli = record { level = record { number = level }; mode = record { number = 0 }; sli = sli }
 
--- G24, G31: what is judged where nothing is refused
+-- G24, G31, G40: what is judged where nothing is refused
 abbrev pub judged : ℕ → Bool → List ℕ → List ℕ → List ℕ → Judgement
-judged level sli bytes map list = record { verdict = verdictOf (submission (settingOf level sli) bytes list) map; count = countOf list }
+judged level sli bytes map list =
+    let x = submission (settingOf level sli) bytes list in
+    record { verdict = withWhy x (verdictOf x map); count = countOf list }
 
 -- the judgement where so many words may be lent,
 unfoldable pub judgeUpTo : ℕ → ℕ → Bool → List ℕ → List ℕ → List ℕ → Judgement

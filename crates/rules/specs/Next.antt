@@ -24,7 +24,7 @@ nexts (Long b m c) p s = []
 nexts (OldJump t) p s = (t / 4) in-state s ∷ []
 nexts (Jump t) p s = (t / 4) in-state s ∷ []
 nexts (Call t) p s = (t / 4) in-state inside ∷ (p + 1) in-state main ∷ []
-nexts Reserved p s = []
+nexts (Reserved y) p s = []
 nexts (Refused r) p s = []
 
 -- as `nexts` answers them: how many, and the first two; one that is not there is place 0 in main

@@ -30,7 +30,7 @@ methodsOf (Long b m c) = record { subchannel = b; method = m / 4; increasing = f
 methodsOf (OldJump t) = noMethods
 methodsOf (Jump t) = noMethods
 methodsOf (Call t) = noMethods
-methodsOf Reserved = noMethods
+methodsOf (Reserved y) = noMethods
 methodsOf (Refused r) = noMethods
 
 -- G29: the method of parameter k, from 0

@@ -18,7 +18,7 @@ use Rattle.rules.specs.Next.{_in-state_, nexts}
 use Rattle.rules.specs.Reason.{Submission, submission, size, commandAt, flawAt}
 use Rattle.rules.specs.Judging.{settingOf}
 use Rattle.rules.specs.Path.{Next}
-use Rattle.rules.specs.Answers.{findingNumber, refusedNumber, refusedPairIn, number, verdictRefusal, values, Accepts}
+use Rattle.rules.specs.Answers.{findingNumber, refusedNumber, refusedPairIn, number, verdictRefusal, values, verdictWhy, Accepts}
 use Rattle.rules.specs.Contracts.{FindsOwn, MarkedAmong, Arrives, NextPairs, FirstRefuses, Judges}
 use Rattle.rules.specs.Promises.{Permitted}
 use Rattle.rules.specs.declared.pair.Pair.{Pair}
@@ -140,6 +140,19 @@ Reasons =
     → (n p : ℕ)
     → ((number (r .verdict) ≡ some n) × (values (r .verdict) ≡ p ∷ []))
     ↔ Against (submission (settingOf level sli) bytes list) map n p
+
+-- G40: where it is reason 3, it has the why of the word at its place, and there is one; any other answer has none.
+pub record Whys : Type 0 where
+  pub reserved :
+      (level : ℕ) (sli : Bool) (bytes map list : List ℕ) (r : Judgement) (p : ℕ)
+      → Judges level sli bytes map list r
+      → number (r .verdict) ≡ some 3
+      → values (r .verdict) ≡ p ∷ []
+      → verdictWhy (r .verdict) ≡ reading.why (commandAt (submission (settingOf level sli) bytes list) p)
+  pub one :
+      (level : ℕ) (sli : Bool) (bytes map list : List ℕ) (r : Judgement)
+      → Judges level sli bytes map list r
+      → verdictWhy (r .verdict) ≡ none ↔ (number (r .verdict) ≡ some 3 → ⊥)
 
 -- G39: an increasing command at a marked pair of accepted words, c its count and m the byte number of its method, goes to methods that rise
 -- by one, all below 2,048: parameter k to number m / 4 + k, and to no other.

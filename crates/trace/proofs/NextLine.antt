@@ -18,7 +18,7 @@ use Rattle.channel.proofs.Promises as channel
 use Rattle.trace.specs.Line.{lineOf}
 use Rattle.trace.specs.Lines.{endText, refusedText}
 use Rattle.trace.specs.LineByLine.{lending, Leaving, closing, answered, orEnd, byStage}
-use Rattle.trace.specs.Answers.{stageNumber, stageRefusal, endingNumber, endingValues}
+use Rattle.trace.specs.Answers.{stageNumber, stageRefusal, endingNumber, endingValues, endingWhy}
 use Rattle.trace.specs.Contracts.{RefusedLine, StepLine, Ends, Leaves, Tells}
 use Rattle.trace.specs.Promises.{Closes, Counts, NextLine}
 use Rattle.trace.specs.declared.end.Ending.{Ending}
@@ -76,12 +76,12 @@ module _ (t : Trace) (ws sems : List ℕ) (told : Told) (exit : List ℕ) where
             (answers (answer.Refused n) (says-refusal (r .answer) (n .number) v))
 
 pub next-line : NextLine
-unfolding orEnd endingNumber endingValues
+unfolding orEnd endingNumber endingValues endingWhy
 next-line =
     record {
       refused = λ t ws sems told exit n h s. at-refused t ws sems told exit h n s;
       over = λ t ws sems told exit h s. let x = at-over t ws sems told exit h s in (none-has (told .line) (x .0), x .1);
-      end = λ t ws sems told exit a e h s is n v. closes t ws sems told exit (endText e (t .steps) (t .channel .pusher .get) (t .channel .puller .reference)) sems refl (ending t ws sems told exit h s a is (Ended e) (endings a (Ended e) n v));
+      end = λ t ws sems told exit a e h s is n v w. closes t ws sems told exit (endText e (t .steps) (t .channel .pusher .get) (t .channel .puller .reference)) sems refl (ending t ws sems told exit h s a is (Ended e) (endings a (Ended e) n v w));
       step = λ t ws sems told exit a r after e h s is goes m v. at-event t ws sems told exit h s a is goes r after m e v;
       refused-step = λ t ws sems told exit a r after n h s is goes m v. at-refusal t ws sems told exit h s a is goes r after m n v;
     }

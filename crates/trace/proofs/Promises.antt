@@ -12,7 +12,7 @@ use Rattle.channel.specs.declared.stepping.Answer.the-variants as answer
 use Rattle.channel.proofs.Promises as channel
 use Rattle.trace.specs.End.{endingOf}
 use Rattle.trace.specs.LineByLine.{lending, Leaving, answered, orEnd, byStage}
-use Rattle.trace.specs.Answers.{stageNumber, causeNumber, causeValues, endNumber, endValues, endingNumber, endingValues}
+use Rattle.trace.specs.Answers.{stageNumber, causeNumber, causeValues, causeWhy, endNumber, endValues, endWhy, endingNumber, endingValues, endingWhy}
 use Rattle.trace.specs.Promises.{Refused, One, Begun, Ended, Endings, Whole, Texts, Names, NextLine, Loaded, Printed, Cases}
 use Rattle.trace.specs.declared.end.Ending.{Ending}
 use Rattle.trace.specs.declared.end.Ending.the-variants.{GoesOn, Over}
@@ -77,11 +77,11 @@ pub begun : Begun
 begun = beginning.begun
 
 pub ended : Ended
-unfolding causeNumber causeValues endNumber endValues endingNumber endingValues
+unfolding causeNumber causeValues causeWhy endNumber endValues endWhy endingNumber endingValues endingWhy
 ended =
     record {
-      pusher-error = λ c n a h e. let s = by-pusher c e in rw (h, if-stopped c n (s .0), s .1) (refl, refl);
-      puller-error = λ c n a h z e. let s = by-puller c z e in rw (h, if-stopped c n (s .0), s .1) (refl, refl);
+      pusher-error = λ c n a h e. let s = by-pusher c e in rw (h, if-stopped c n (s .0), s .1) (refl, refl, refl);
+      puller-error = λ c n a h z e. let s = by-puller c z e in rw (h, if-stopped c n (s .0), s .1) (refl, refl, refl);
       idle = λ c n a b h i. rw (h, i) (idle-iff c n);
       further-step = λ c n a l exit r h m taken. rw h (step-iff c n l exit r m taken);
       budget = λ c n a b h x y i busy. rw h (budget-iff c n (not-stopped c x y) (sym i ∙ busy));

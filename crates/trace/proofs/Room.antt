@@ -21,8 +21,8 @@ use Rattle.puller.specs.Record as puller
 use Rattle.io.specs.Digits.{digits}
 use Rattle.trace.specs.Text.{text, orElse, width, decimal}
 use Rattle.trace.specs.Line.{lineOf}
-use Rattle.trace.specs.Names.{kinds, kindName, pusherErrors, pullerErrors, pusherName, pullerName, causeName, refusals, refusalName}
-use Rattle.trace.specs.Lines.{field, fields, eventText, stepText, endPart, endText, refusedText}
+use Rattle.trace.specs.Names.{kinds, kindName, pusherErrors, pullerErrors, pusherName, pullerName, causeName, whys, whyName, refusals, refusalName}
+use Rattle.trace.specs.Lines.{field, fields, eventText, stepText, whyPart, causePart, endPart, endText, refusedText}
 use Rattle.trace.specs.Promises.{Has}
 use Rattle.trace.specs.declared.line.Line.{Line}
 use Rattle.trace.specs.declared.end.Cause.{Cause}
@@ -52,7 +52,7 @@ field-short : (label : String) (n : ℕ) → length (field label n) ≤ length (
 unfolding field
 field-short label n = let digits = decimal-short n in simp (length-append {A = ℕ}) (omega arith)
 
--- a kind's name has at most 7 bytes, a cause's 16, and a refusal's 9
+-- a kind's name has at most 7 bytes, a cause's 16, a why's 5, and a refusal's 9
 kind-short : (k : Kind) → length (text (kindName k)) ≤ 7
 unfolding text kinds kindName
 kind-short k = short 7 kinds refl (number k)
@@ -61,6 +61,11 @@ cause-short : (c : Cause) → length (text (causeName c)) ≤ 16
 unfolding text pusherErrors pullerErrors pusherName pullerName causeName
 cause-short (Pusher e) = short 16 pusherErrors refl (pusher.number e)
 cause-short (Puller e) = short 16 pullerErrors refl (puller.number e)
+
+why-short : (o : Option ℕ) → length (whyPart o) ≤ 10
+unfolding text whys whyName whyPart
+why-short none = omega arith
+why-short (some n) = let name = short 5 whys refl n in simp (length-append {A = ℕ}) (omega arith)
 
 refusal-short : (n : ℕ) → length (text (refusalName n)) ≤ 9
 unfolding text refusals refusalName
@@ -88,13 +93,14 @@ step-short step get e =
     let event = event-short e in
     simp (length-append {A = ℕ}) (omega arith)
 
-part-short : (e : End) → length (endPart e) ≤ 28
-unfolding endPart text
-part-short (Error c) = let cause = cause-short c in simp (length-append {A = ℕ}) (omega arith)
+part-short : (e : End) → length (endPart e) ≤ 38
+unfolding causePart endPart text
+part-short (Error (Pusher e)) = let cause = cause-short (Pusher e) in let why = why-short (pusher.why e) in simp (length-append {A = ℕ}) (omega arith)
+part-short (Error (Puller e)) = let cause = cause-short (Puller e) in simp (length-append {A = ℕ}) (omega arith)
 part-short Idle = omega arith
 part-short Budget = omega arith
 
-end-short : (e : End) (steps get ref : ℕ) → length (endText e steps get ref) ≤ 113
+end-short : (e : End) (steps get ref : ℕ) → length (endText e steps get ref) ≤ 123
 unfolding endText text
 end-short e steps get ref =
     let part = part-short e in

@@ -35,6 +35,11 @@ unfoldable pub causeValues : Cause → List ℕ
 causeValues (cause.Pusher e) = pusher.number e ∷ []
 causeValues (cause.Puller e) = puller.number e ∷ []
 
+-- S33: the number of a why, which RESERVED_CMD alone has
+unfoldable pub causeWhy : Cause → Option ℕ
+causeWhy (cause.Pusher e) = pusher.why e
+causeWhy (cause.Puller e) = none
+
 -- 1 error, 2 idle, 3 budget; of an error, its cause's number and values
 unfoldable pub endNumber : End → ℕ
 endNumber (Error c) = 1
@@ -46,6 +51,11 @@ endValues (Error c) = causeNumber c ∷ causeValues c
 endValues Idle = []
 endValues Budget = []
 
+unfoldable pub endWhy : End → Option ℕ
+endWhy (Error c) = causeWhy c
+endWhy Idle = none
+endWhy Budget = none
+
 unfoldable pub endingNumber : Ending → ℕ
 endingNumber ending.GoesOn = 0
 endingNumber (ending.Over e) = endNumber e
@@ -53,3 +63,7 @@ endingNumber (ending.Over e) = endNumber e
 unfoldable pub endingValues : Ending → List ℕ
 endingValues ending.GoesOn = []
 endingValues (ending.Over e) = endValues e
+
+unfoldable pub endingWhy : Ending → Option ℕ
+endingWhy ending.GoesOn = none
+endingWhy (ending.Over e) = endWhy e

@@ -3,12 +3,16 @@
 --     end=idle steps=2 get=8 ref=7
 use Prim.Native.Nat.{ℕ}
 use Prim.Native.String.{String}
-use mathlib.Core.List.{List, _++_}
+use mathlib.Core.List.{List, [], _++_}
+use mathlib.Core.Option.{Option, none, some}
 use Rattle.event.specs.declared.Method.{Method}
 use Rattle.event.specs.declared.Event.{Event}
 use Rattle.event.specs.declared.Event.the-variants.{Plain, Of}
+use Rattle.pusher.specs.Record.{why}
 use Rattle.trace.specs.Text.{text, decimal}
-use Rattle.trace.specs.Names.{kindName, causeName, refusalName}
+use Rattle.trace.specs.Names.{kindName, causeName, whyName, refusalName}
+use Rattle.trace.specs.declared.end.Cause.{Cause}
+use Rattle.trace.specs.declared.end.Cause.the-variants.{Pusher, Puller}
 use Rattle.trace.specs.declared.end.End.{End}
 use Rattle.trace.specs.declared.end.End.the-variants.{Error, Idle, Budget}
 
@@ -29,9 +33,19 @@ eventText (Of k m) = text (kindName k) ++ fields m
 unfoldable pub stepText : ℕ → ℕ → Event → List ℕ
 stepText step get e = field "step=" step ++ field " get=" get ++ text " kind=" ++ eventText e ++ text "\n"
 
+-- T7, T11: the why, where there is one
+unfoldable pub whyPart : Option ℕ → List ℕ
+whyPart none = []
+whyPart (some n) = text " why=" ++ text (whyName n)
+
+-- T7: the cause's name, and right behind it the why of an error of the pusher's
+unfoldable pub causePart : Cause → List ℕ
+causePart (Pusher e) = text (causeName (Pusher e)) ++ whyPart (why e)
+causePart (Puller e) = text (causeName (Puller e))
+
 -- T7: how it ended
 unfoldable pub endPart : End → List ℕ
-endPart (Error c) = text "error cause=" ++ text (causeName c)
+endPart (Error c) = text "error cause=" ++ causePart c
 endPart Idle = text "idle"
 endPart Budget = text "budget"
 

@@ -1,4 +1,4 @@
--- The names of kinds, causes and refusals, by their numbers.
+-- The names of kinds, causes, whys and refusals, by their numbers.
 use Prim.Native.Nat.{ℕ, zero, suc}
 use Prim.Native.String.{String}
 use mathlib.Core.List.{List, [], _∷_}
@@ -65,6 +65,13 @@ pullerName e = name pullerErrors (puller.number e)
 unfoldable pub causeName : Cause → String
 causeName (Pusher e) = pusherName e
 causeName (Puller e) = pullerName e
+
+-- T11: the whys, in the order of their numbers
+unfoldable pub whys : List String
+whys = "FORM" ∷ "LEVEL" ∷ "MODE" ∷ "SLI" ∷ []
+
+unfoldable pub whyName : ℕ → String
+whyName n = name whys n
 
 -- T2: the refusals, in the order of their numbers
 unfoldable pub refusals : List String

@@ -26,9 +26,9 @@ use Rattle.channel.specs.declared.opening.Opened.{Opened}
 use Rattle.channel.specs.declared.putting.Put.{Put}
 use Rattle.channel.specs.declared.stepping.Stepped.{Stepped}
 use Rattle.trace.specs.Text.{text, decimal}
-use Rattle.trace.specs.Names.{kindName, causeName, refusalName}
+use Rattle.trace.specs.Names.{kindName, causeName, whyName, refusalName}
 use Rattle.trace.specs.Printed.{printed}
-use Rattle.trace.specs.Answers.{stageNumber, stageRefusal, causeNumber, causeValues, endNumber, endValues, endingNumber, endingValues}
+use Rattle.trace.specs.Answers.{stageNumber, stageRefusal, causeNumber, causeValues, causeWhy, endNumber, endValues, endWhy, endingNumber, endingValues, endingWhy}
 use Rattle.trace.specs.Contracts.{StepLine, EndLine, RefusedLine, Ends, Loads, Begins, Tells}
 use Rattle.trace.specs.declared.line.Line.{Line}
 use Rattle.trace.specs.declared.end.Cause.{Cause}
@@ -90,18 +90,18 @@ pub record Begun : Type 0 where
 
 -- T6: how a run has ended, at every channel. A number 0 of the errors is none.
 pub record Ended : Type 0 where
-  -- T9: 1 is error, with its cause: 1 the pusher's or 2 the puller's, and the error's number
+  -- T9, S33: 1 is error, with its cause: 1 the pusher's or 2 the puller's, and the error's number and why
   pub pusher-error :
       (c : Channel) (n : ℕ) (a : Ending)
       → Ends c n a
       → (pusher.number (c .pusher .error) ≡ 0 → ⊥)
-      → (endingNumber a ≡ 1) × (endingValues a ≡ 1 ∷ pusher.number (c .pusher .error) ∷ [])
+      → (endingNumber a ≡ 1) × (endingValues a ≡ 1 ∷ pusher.number (c .pusher .error) ∷ []) × (endingWhy a ≡ pusher.why (c .pusher .error))
   pub puller-error :
       (c : Channel) (n : ℕ) (a : Ending)
       → Ends c n a
       → pusher.number (c .pusher .error) ≡ 0
       → (puller.number (c .puller .error) ≡ 0 → ⊥)
-      → (endingNumber a ≡ 1) × (endingValues a ≡ 2 ∷ puller.number (c .puller .error) ∷ [])
+      → (endingNumber a ≡ 1) × (endingValues a ≡ 2 ∷ puller.number (c .puller .error) ∷ []) × (endingWhy a ≡ none)
   -- 2 is idle, exactly if the channel's `idle` says so;
   pub idle : (c : Channel) (n : ℕ) (a : Ending) (b : Bool) → Ends c n a → Idles c b → endingNumber a ≡ 2 ↔ b ≡ true
   -- exactly if a further step that is not refused says so, whatever is lent to it
@@ -121,9 +121,9 @@ pub record Ended : Type 0 where
       → b ≡ false
       → (endingNumber a ≡ 3 ↔ 65536 ≤ n) × (endingNumber a ≡ 0 ↔ n < 65536)
 
--- An ending is told by its number and values: what a promise says of an ending, it says of them.
+-- An ending is told by its number, values and why: what a promise says of an ending, it says of them.
 abbrev pub Endings : Type 0
-Endings = (a b : Ending) → endingNumber a ≡ endingNumber b → endingValues a ≡ endingValues b → a ≡ b
+Endings = (a b : Ending) → endingNumber a ≡ endingNumber b → endingValues a ≡ endingValues b → endingWhy a ≡ endingWhy b → a ≡ b
 
 -- Every line has room for its text: its length is the text's, and the bytes are the text's and then 0.
 pub record Has (t : List ℕ) (l : Line) : Type 0 where
@@ -175,9 +175,32 @@ pub record Whole : Type 0 where
       → EndLine e steps get ref l
       → endNumber e ≡ 1
       → endValues e ≡ causeNumber c ∷ causeValues c
+      → endWhy e ≡ causeWhy c
+      → causeWhy c ≡ none
       → Has
       (text "end=error cause="
       ++ text (causeName c)
+      ++ text " steps="
+      ++ decimal steps
+      ++ text " get="
+      ++ decimal get
+      ++ text " ref="
+      ++ decimal ref
+      ++ text "\n")
+      l
+  -- T7: and right behind it the why, where there is one
+  pub why-line :
+      (e : End) (c : Cause) (n steps get ref : ℕ) (l : Line)
+      → EndLine e steps get ref l
+      → endNumber e ≡ 1
+      → endValues e ≡ causeNumber c ∷ causeValues c
+      → endWhy e ≡ causeWhy c
+      → causeWhy c ≡ some n
+      → Has
+      (text "end=error cause="
+      ++ text (causeName c)
+      ++ text " why="
+      ++ text (whyName n)
       ++ text " steps="
       ++ decimal steps
       ++ text " get="
@@ -224,6 +247,8 @@ pub record Names : Type 0 where
   pub kinds : (k : Kind) → getD kindsNamed (number k) none ≡ some (kindName k)
   pub pusher : (c : Cause) (n : ℕ) → causeNumber c ≡ 1 → causeValues c ≡ n ∷ [] → getD pusherNamed n none ≡ some (causeName c)
   pub puller : (c : Cause) (n : ℕ) → causeNumber c ≡ 2 → causeValues c ≡ n ∷ [] → getD pullerNamed n none ≡ some (causeName c)
+  -- T11: the whys'
+  pub whys : map whyName (1 ∷ 2 ∷ 3 ∷ 4 ∷ []) ≡ "FORM" ∷ "LEVEL" ∷ "MODE" ∷ "SLI" ∷ []
   -- the refusals', R1 to R13
   pub refusals :
       map refusalName (1 ∷ 2 ∷ 3 ∷ 4 ∷ 5 ∷ 6 ∷ 7 ∷ 8 ∷ 9 ∷ 10 ∷ 11 ∷ 12 ∷ 13 ∷ [])
@@ -266,6 +291,7 @@ pub record NextLine : Type 0 where
       → Ends (t .channel) (t .steps) a
       → endingNumber a ≡ endNumber e
       → endingValues a ≡ endValues e
+      → endingWhy a ≡ endWhy e
       → EndLine e (t .steps) (t .channel .pusher .get) (t .channel .puller .reference) (told .line) × Closes t sems told exit
   -- T1, T3: and one that goes on makes a step, to which the words, the semaphore words, no IB entries, an empty table and the clock 0
   -- are lent, and tells its event, with the read address before the step
@@ -344,7 +370,7 @@ pub record Printed : Type 0 where
       → StepsTo d (toStep (wordsOf bytes) [] [] sems 0) r exit
       → stepRefusal (r .answer) ≡ none
 
--- Texts to try: T3, T4, T7 with two words; no words; an error; and T2
+-- Texts to try: T3, T4, T7 with two words; no words; errors; and T2
 pub record Cases : Type 0 where
   pub printed-case :
       printed (0x50 ∷ 0x00 ∷ 0x04 ∷ 0x00 ∷ 0x07 ∷ 0x00 ∷ 0x00 ∷ 0x00 ∷ [])
@@ -352,4 +378,8 @@ pub record Cases : Type 0 where
   pub no-words : printed [] ≡ text "end=idle steps=0 get=0 ref=0\n"
   -- a return without a call
   pub error : printed (0x00 ∷ 0x00 ∷ 0x02 ∷ 0x00 ∷ []) ≡ text "step=1 get=0 kind=error\nend=error cause=RETURN steps=1 get=4 ref=0\n"
+  -- T11: no form; a long form, which is IB mode's; an SLI conditional
+  pub formless : printed (0x03 ∷ 0x00 ∷ 0x00 ∷ 0x00 ∷ []) ≡ text "step=1 get=0 kind=error\nend=error cause=RESERVED_CMD why=FORM steps=1 get=4 ref=0\n"
+  pub long : printed (0x00 ∷ 0x41 ∷ 0x03 ∷ 0x00 ∷ []) ≡ text "step=1 get=0 kind=error\nend=error cause=RESERVED_CMD why=MODE steps=1 get=4 ref=0\n"
+  pub conditional : printed (0x50 ∷ 0x00 ∷ 0x01 ∷ 0x00 ∷ []) ≡ text "step=1 get=0 kind=error\nend=error cause=RESERVED_CMD why=SLI steps=1 get=4 ref=0\n"
   pub part-word : printed (0x50 ∷ []) ≡ text "refused=LENGTH\n"

@@ -2,8 +2,9 @@
 ghost use mathlib.Core.Path.{_≡_};
 ghost use Rattle.trace.specs.Text.{text};
 ghost use Rattle.trace.specs.Line.{added};
-ghost use Rattle.trace.specs.Names.{kindName, causeName};
-ghost use Rattle.trace.specs.Lines.{fields, eventText, endPart};
+ghost use Rattle.pusher.specs.Record as pusher;
+ghost use Rattle.trace.specs.Names.{kindName};
+ghost use Rattle.trace.specs.Lines.{fields, eventText, whyPart, causePart, endPart};
 ghost use Rattle.trace.specs.Contracts.{StepLine, EndLine, RefusedLine};
 use crate::end::Cause;
 use crate::end::End;
@@ -15,6 +16,7 @@ use crate::line::tell;
 use event::Event;
 use event::Kind;
 use event::Method;
+use pusher::PusherError;
 use word::Refusal;
 
 // The line of a step, counted from 1; `get` is before the step.
@@ -81,13 +83,14 @@ fn end_in(line: Line, end: End) -> Line
     }
 }
 
+// A cause, and right behind a reserved word's why it is reserved.
 fn cause_in(line: Line, cause: Cause) -> Line
-    ensures { λ r. ⌜ r ≡ added line (text (causeName cause)) ⌝ }
+    ensures { λ r. ⌜ r ≡ added line (causePart cause) ⌝ }
 {
     match cause {
         Cause::Pusher { error } => {
             let names = b" CALL NON_CACHE RETURN RESERVED_CMD IB PROTECTION";
-            name_in(line, names, error.number())
+            why_in(name_in(line, names, error.number()), error)
         }
         Cause::Puller { error } => {
             let names =
@@ -95,4 +98,17 @@ fn cause_in(line: Line, cause: Cause) -> Line
             name_in(line, names, error.number())
         }
     }
+}
+
+fn why_in(line: Line, error: PusherError) -> Line
+    ensures { λ r. ⌜ r ≡ added line (whyPart (pusher.why error)) ⌝ }
+{
+    let PusherError::ReservedCmd { why } = error else {
+        return line;
+    };
+    name_in(
+        say(line, b" why="),
+        b" FORM LEVEL MODE SLI",
+        why.number() as u32,
+    )
 }

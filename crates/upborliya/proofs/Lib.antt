@@ -1,4 +1,4 @@
-pub mod FourParts
+pub mod FiveParts
 pub mod GivesBack
 pub mod ReadingBack
 pub mod RepairBack

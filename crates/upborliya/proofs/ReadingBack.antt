@@ -8,10 +8,12 @@ use native.Mathlib.Omega.{arith}
 use Rattle.word.specs.Answers.{readingRefusal}
 use Rattle.word.specs.Contracts.{Reads}
 use Rattle.word.specs.Promises.{Within}
-use Rattle.word.specs.Reading.{number, values, readOf}
+use Rattle.word.specs.Why.{whyNumber}
+use Rattle.word.specs.Reading.{number, values, why, readOf}
 use Rattle.word.specs.declared.setting.Setting.{Setting}
 use Rattle.word.specs.declared.reading.Reading.{Reading}
 use Rattle.word.specs.declared.reading.Reading.the-variants.{Increasing, NonIncreasing, Sli, Return, Long, OldJump, Jump, Call, Reserved, Refused}
+use Rattle.word.proofs.Told.{why-few}
 use Rattle.word.proofs.Promises as word
 use Rattle.upborliya.specs.Packed.{packedRun, packedReading, on}
 use Rattle.upborliya.specs.Contracts.{settingBy}
@@ -37,7 +39,7 @@ value-parts f v n lf lv e = (omega arith, omega arith, omega arith, omega arith,
 Told : Reading → Type 0
 Told r = (k : ℕ) → readingRefusal r ≡ some k → k ≤ 4
 
-module _ (r : Reading) (refusal-none : readingRefusal r ≡ none) where
+module _ (r : Reading) (refusal-none : readingRefusal r ≡ none) (why-none : why r ≡ none) where
   -- what a run's number says, r being of that form and having these values
   of-run :
       (f c b m n : ℕ)
@@ -58,7 +60,8 @@ module _ (r : Reading) (refusal-none : readingRefusal r ≡ none) where
           form = p .1 ∙ sym is;
           refusal = λ k h. let z : _≡_ {A = ℕ} 0 1 = cc in absurd (omega arith);
           no-refusal = λ h. p .2;
-          spare = p .3;
+          why = λ k h. let z : _≡_ {A = ℕ} 0 1 = cc in absurd (omega arith);
+          no-why = λ h. p .3;
           run = λ u v w o h. let s = runs u v w (⊎-elim (λ g. omega arith) (λ g. omega arith) o) h in (p .4 ∙ sym (s .0), p .5 ∙ sym (s .1), p .6 ∙ sym (s .2));
           long = λ u v w o h. let s = longs u v w (omega arith) h in (p .4 ∙ sym (s .2), p .5 ∙ sym (s .0), p .6 ∙ sym (s .1));
           value = λ v o h. absurd (⊎-elim (λ g. ⊎-elim (λ w. omega arith) (λ x. ⊎-elim (λ w. omega arith) (λ w. omega arith) x) which) (λ g. omega arith) o);
@@ -84,7 +87,8 @@ module _ (r : Reading) (refusal-none : readingRefusal r ≡ none) where
           form = p .1 ∙ sym is;
           refusal = λ k h. let z : _≡_ {A = ℕ} 0 1 = cc in absurd (omega arith);
           no-refusal = λ h. p .2;
-          spare = p .3;
+          why = λ k h. let z : _≡_ {A = ℕ} 0 1 = cc in absurd (omega arith);
+          no-why = λ h. p .3;
           run = λ c b m o h. absurd (⊎-elim (λ g. other .0 (sym is ∙ g)) (λ g. other .1 (sym is ∙ g)) o);
           long = λ b m c o h. absurd (other .3 (sym is ∙ o));
           value = λ u o h. let s = one u h in (p .4 ∙ sym s, p .5);
@@ -92,46 +96,69 @@ module _ (r : Reading) (refusal-none : readingRefusal r ≡ none) where
         },
       )
 
-  -- what a bare number says
-  of-nothing : (n : ℕ) → number r ≡ n → (n ≡ 4) ⊎ (n ≡ 9) → (n < 2 ^ 64) × UnpackedReading n r
-  of-nothing n is which =
-      let few : (n ≤ 9) × (4 ≤ n) = ⊎-elim (λ h. (omega arith, omega arith)) (λ h. (omega arith, omega arith)) which in
-      let other : (n ≡ 5 → ⊥) × ((6 ≤ n) × (n ≤ 8) → ⊥) = ⊎-elim (λ h. (λ a. omega arith, λ a. omega (arith, a .0))) (λ h. (λ a. omega arith, λ a. omega (arith, a .1))) which in (
-        omega (arith, few .0),
-        record {
-          form = omega (arith, few .0);
-          refusal = λ k h. let z : _≡_ {A = ℕ} 0 1 = cc in absurd (omega arith);
-          no-refusal = λ h. omega (arith, few .0);
-          spare = omega (arith, few .0);
-          run = λ c b m o h. absurd (⊎-elim (λ g. omega (arith, few .1)) (λ g. omega (arith, few .1)) o);
-          long = λ b m c o h. absurd (other .0 (sym is ∙ o));
-          value = λ u o h. absurd (⊎-elim (λ g. omega (arith, few .1)) (λ g. other .1 (rw is at g)) o);
-          nothing = λ o. omega (arith, few .0);
-        },
-      )
+-- what says neither a run nor one value: a return, a reserved word with its why, or a refusal
+module _ (r : Reading) (which : (number r ≡ 4) ⊎ (9 ≤ number r)) where
+  no-run : {A : Type 0} → (number r ≡ 1) ⊎ (number r ≡ 2) → A
+  no-run o = absurd (⊎-elim (λ f. ⊎-elim (λ g. omega arith) (λ g. omega arith) o) (λ f. ⊎-elim (λ g. omega arith) (λ g. omega arith) o) which)
+
+  no-long : {A : Type 0} → number r ≡ 5 → A
+  no-long o = absurd (⊎-elim (λ f. omega arith) (λ f. omega arith) which)
+
+  no-value : {A : Type 0} → (number r ≡ 3) ⊎ ((6 ≤ number r) × (number r ≤ 8)) → A
+  no-value o = absurd (⊎-elim (λ f. ⊎-elim (λ g. omega arith) (λ g. omega (arith, g .0)) o) (λ f. ⊎-elim (λ g. omega arith) (λ g. omega (arith, g .1)) o) which)
 
 unpacks : (r : Reading) (n : ℕ) → Within r → Told r → n ≡ packedReading r → (n < 2 ^ 64) × UnpackedReading n r
-unfolding packedReading number values readingRefusal Told
-unpacks (Increasing c b m) n w t e = of-run (Increasing c b m) refl 1 c b m n refl (inl refl) (λ u v x l h. (cc, cc, cc)) (λ u v x f h. absurd (omega arith)) (omega (arith, w .0)) (omega (arith, w .1)) (omega (arith, w .2)) e
-unpacks (NonIncreasing c b m) n w t e = of-run (NonIncreasing c b m) refl 2 c b m n refl (inr (inl refl)) (λ u v x l h. (cc, cc, cc)) (λ u v x f h. absurd (omega arith)) (omega (arith, w .0)) (omega (arith, w .1)) (omega (arith, w .2)) e
-unpacks (Sli k) n w t e = of-value (Sli k) refl 3 k n refl (inl refl) (λ u h. cc) (omega arith) e
-unpacks Return n w t e = rw e (of-nothing Return refl 4 refl (inl refl))
-unpacks (Long b m c) n w t e = of-run (Long b m c) refl 5 c b m n refl (inr (inr refl)) (λ u v x l h. absurd (omega arith)) (λ u v x f h. (cc, cc, cc)) (omega (arith, w .3)) (omega (arith, w .0)) (omega (arith, w .1)) e
-unpacks (OldJump k) n w t e = of-value (OldJump k) refl 6 k n refl (inr (omega arith, omega arith)) (λ u h. cc) (omega (arith, w .0)) e
-unpacks (Jump k) n w t e = of-value (Jump k) refl 7 k n refl (inr (omega arith, omega arith)) (λ u h. cc) (omega (arith, w .0)) e
-unpacks (Call k) n w t e = of-value (Call k) refl 8 k n refl (inr (omega arith, omega arith)) (λ u h. cc) (omega (arith, w .0)) e
-unpacks Reserved n w t e = rw e (of-nothing Reserved refl 9 refl (inr refl))
+unfolding packedReading number values readingRefusal why Told
+unpacks (Increasing c b m) n w t e = of-run (Increasing c b m) refl refl 1 c b m n refl (inl refl) (λ u v x l h. (cc, cc, cc)) (λ u v x f h. absurd (omega arith)) (omega (arith, w .0)) (omega (arith, w .1)) (omega (arith, w .2)) e
+unpacks (NonIncreasing c b m) n w t e = of-run (NonIncreasing c b m) refl refl 2 c b m n refl (inr (inl refl)) (λ u v x l h. (cc, cc, cc)) (λ u v x f h. absurd (omega arith)) (omega (arith, w .0)) (omega (arith, w .1)) (omega (arith, w .2)) e
+unpacks (Sli k) n w t e = of-value (Sli k) refl refl 3 k n refl (inl refl) (λ u h. cc) (omega arith) e
+unpacks Return n w t e = (
+  omega arith,
+  record {
+    form = omega arith;
+    refusal = λ k h. let z : _≡_ {A = ℕ} 0 1 = cc in absurd (omega arith);
+    no-refusal = λ h. omega arith;
+    why = λ k h. let z : _≡_ {A = ℕ} 0 1 = cc in absurd (omega arith);
+    no-why = λ h. omega arith;
+    run = λ c b m o h. no-run Return (inl refl) o;
+    long = λ b m c o h. no-long Return (inl refl) o;
+    value = λ u o h. no-value Return (inl refl) o;
+    nothing = λ o. omega arith;
+  },
+)
+unpacks (Long b m c) n w t e = of-run (Long b m c) refl refl 5 c b m n refl (inr (inr refl)) (λ u v x l h. absurd (omega arith)) (λ u v x f h. (cc, cc, cc)) (omega (arith, w .3)) (omega (arith, w .0)) (omega (arith, w .1)) e
+unpacks (OldJump k) n w t e = of-value (OldJump k) refl refl 6 k n refl (inr (omega arith, omega arith)) (λ u h. cc) (omega (arith, w .0)) e
+unpacks (Jump k) n w t e = of-value (Jump k) refl refl 7 k n refl (inr (omega arith, omega arith)) (λ u h. cc) (omega (arith, w .0)) e
+unpacks (Call k) n w t e = of-value (Call k) refl refl 8 k n refl (inr (omega arith, omega arith)) (λ u h. cc) (omega (arith, w .0)) e
+unpacks (Reserved y) n w t e =
+    let l = why-few y in
+    let nine : 9 ≤ number (Reserved y) = omega arith in (
+      omega arith,
+      record {
+        form = omega arith;
+        refusal = λ k h. let z : _≡_ {A = ℕ} 0 1 = cc in absurd (omega arith);
+        no-refusal = λ h. omega arith;
+        why = λ k h. let same : whyNumber y ≡ k = cc in omega arith;
+        no-why = λ h. let z : _≡_ {A = ℕ} 0 1 = cc in absurd (omega arith);
+        run = λ c b m o h. no-run (Reserved y) (inr nine) o;
+        long = λ b m c o h. no-long (Reserved y) (inr nine) o;
+        value = λ u o h. no-value (Reserved y) (inr nine) o;
+        nothing = λ o. omega arith;
+      },
+    )
 unpacks (Refused x) n w t e =
-    let l = t (x .number) refl in (
+    let l = t (x .number) refl in
+    let ten : 9 ≤ number (Refused x) = omega arith in (
       omega arith,
       record {
         form = omega arith;
         refusal = λ k h. let same : x .number ≡ k = cc in omega arith;
         no-refusal = λ h. let z : _≡_ {A = ℕ} 0 1 = cc in absurd (omega arith);
-        spare = omega arith;
-        run = λ c b m o h. absurd (⊎-elim (λ g. omega arith) (λ g. omega arith) o);
-        long = λ b m c o h. absurd (omega arith);
-        value = λ u o h. absurd (⊎-elim (λ g. omega arith) (λ g. omega (arith, g .1)) o);
+        why = λ k h. let z : _≡_ {A = ℕ} 0 1 = cc in absurd (omega arith);
+        no-why = λ h. omega arith;
+        run = λ c b m o h. no-run (Refused x) (inr ten) o;
+        long = λ b m c o h. no-long (Refused x) (inr ten) o;
+        value = λ u o h. no-value (Refused x) (inr ten) o;
         nothing = λ o. omega arith;
       },
     )

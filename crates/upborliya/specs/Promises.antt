@@ -10,7 +10,7 @@ use Rattle.word.specs.Contracts.{Reads}
 use Rattle.word.specs.Reading as reading
 use Rattle.word.specs.declared.setting.Setting.{Setting}
 use Rattle.word.specs.declared.reading.Reading.{Reading}
-use Rattle.rules.specs.Answers.{number, verdictRefusal, values, Accepts}
+use Rattle.rules.specs.Answers.{number, verdictRefusal, values, verdictWhy, Accepts}
 use Rattle.rules.specs.Contracts.{Judges}
 use Rattle.rules.specs.Promises.{Bytes}
 use Rattle.rules.specs.declared.judging.Judgement.{Judgement}
@@ -35,7 +35,8 @@ pub record Unpacked (n : ℕ) (r : Judgement) : Type 0 where
   pub no-reason : number (r .verdict) ≡ none → n % 2 ^ 8 ≡ 0
   pub refusal : (k : ℕ) → verdictRefusal (r .verdict) ≡ some k → n / 2 ^ 8 % 2 ^ 8 ≡ k
   pub no-refusal : verdictRefusal (r .verdict) ≡ none → n / 2 ^ 8 % 2 ^ 8 ≡ 0
-  pub spare : n / 2 ^ 16 % 2 ^ 8 ≡ 0
+  pub why : (k : ℕ) → verdictWhy (r .verdict) ≡ some k → n / 2 ^ 16 % 2 ^ 8 ≡ k
+  pub no-why : verdictWhy (r .verdict) ≡ none → n / 2 ^ 16 % 2 ^ 8 ≡ 0
   pub count : n / 2 ^ 24 % 2 ^ 16 ≡ r .count
   pub place : (p : ℕ) → values (r .verdict) ≡ p ∷ [] → n / 2 ^ 40 ≡ p
   pub no-place : values (r .verdict) ≡ [] → n / 2 ^ 40 ≡ 0
@@ -62,7 +63,8 @@ pub record UnpackedReading (n : ℕ) (r : Reading) : Type 0 where
   pub form : n % 2 ^ 8 ≡ reading.number r
   pub refusal : (k : ℕ) → readingRefusal r ≡ some k → n / 2 ^ 8 % 2 ^ 8 ≡ k
   pub no-refusal : readingRefusal r ≡ none → n / 2 ^ 8 % 2 ^ 8 ≡ 0
-  pub spare : n / 2 ^ 16 % 2 ^ 8 ≡ 0
+  pub why : (k : ℕ) → reading.why r ≡ some k → n / 2 ^ 16 % 2 ^ 8 ≡ k
+  pub no-why : reading.why r ≡ none → n / 2 ^ 16 % 2 ^ 8 ≡ 0
   pub run :
       (c b m : ℕ)
       → (reading.number r ≡ 1) ⊎ (reading.number r ≡ 2)
@@ -74,7 +76,7 @@ pub record UnpackedReading (n : ℕ) (r : Reading) : Type 0 where
       → (reading.number r ≡ 3) ⊎ ((6 ≤ reading.number r) × (reading.number r ≤ 8))
       → reading.values r ≡ v ∷ []
       → (n / 2 ^ 32 ≡ v) × (n / 2 ^ 24 % 2 ^ 8 ≡ 0)
-  pub nothing : (reading.number r ≡ 4) ⊎ (9 ≤ reading.number r) → n / 2 ^ 16 ≡ 0
+  pub nothing : (reading.number r ≡ 4) ⊎ (9 ≤ reading.number r) → n / 2 ^ 24 ≡ 0
 
 -- W19: nothing of a reading is lost
 abbrev pub ReadingBack : Type 0

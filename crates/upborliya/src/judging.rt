@@ -1,9 +1,10 @@
 // The gatekeeper's judgement in one number.
 ghost use mathlib.Core.Path.{_≡_};
-ghost use Rattle.upborliya.specs.Packed.{packed, reasonIn, refusalIn, placeIn};
+ghost use Rattle.upborliya.specs.Packed.{packed, reasonIn, refusalIn, whyIn, placeIn};
 ghost use Rattle.upborliya.specs.Contracts.{JudgesPacked};
 use gate::judge;
 use rules::Judgement;
+use rules::Reason;
 use rules::Verdict;
 
 // Judges a submission. SLI is off for 0, and on for any other number.
@@ -20,14 +21,16 @@ pub extern "C" fn upborliya_judge(
     pack(judge(level, sli != 0, words, map, permit))
 }
 
-// Reason, refusal, a byte of 0, count and place, from the lowest bits up.
+// Reason, refusal, why, count and place, from the lowest bits up.
 fn pack(judgement: Judgement) -> u64
     ensures { λ r. ⌜ r ≡ packed judgement ⌝ }
 {
     let verdict = judgement.verdict;
     let count = (judgement.count & 0xffff) as u64;
     let place = (place_in(verdict) & 0xff_ffff) as u64;
-    place << 40 | (count << 24 | ((refusal_in(verdict) as u64) << 8 | reason_in(verdict) as u64))
+    let why = why_in(verdict) as u64;
+    let refusal = refusal_in(verdict) as u64;
+    place << 40 | (count << 24 | (why << 16 | (refusal << 8 | reason_in(verdict) as u64)))
 }
 
 fn reason_in(verdict: Verdict) -> u8
@@ -37,6 +40,7 @@ fn reason_in(verdict: Verdict) -> u8
         Verdict::Accepted => 0,
         Verdict::Rejected { reason, .. } => reason.number,
         Verdict::Refused { .. } => 0,
+        Verdict::Reserved { .. } => Reason::RESERVED.number,
     }
 }
 
@@ -47,6 +51,18 @@ fn refusal_in(verdict: Verdict) -> u8
         Verdict::Accepted => 0,
         Verdict::Rejected { .. } => 0,
         Verdict::Refused { refusal } => refusal.number,
+        Verdict::Reserved { .. } => 0,
+    }
+}
+
+fn why_in(verdict: Verdict) -> u8
+    ensures { λ r. ⌜ r ≡ whyIn verdict ⌝ }
+{
+    match verdict {
+        Verdict::Accepted => 0,
+        Verdict::Rejected { .. } => 0,
+        Verdict::Refused { .. } => 0,
+        Verdict::Reserved { why, .. } => why.number(),
     }
 }
 
@@ -57,5 +73,6 @@ fn place_in(verdict: Verdict) -> u32
         Verdict::Accepted => 0,
         Verdict::Rejected { place, .. } => place,
         Verdict::Refused { .. } => 0,
+        Verdict::Reserved { place, .. } => place,
     }
 }

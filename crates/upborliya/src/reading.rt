@@ -47,7 +47,7 @@ fn pack_reading(reading: Reading) -> u64
         Reading::OldJump { target } => pack_value(6, target),
         Reading::Jump { target } => pack_value(7, target),
         Reading::Call { target } => pack_value(8, target),
-        Reading::Reserved => 9,
+        Reading::Reserved { why } => why.number() as u64 * 0x1_0000 + 9,
         Reading::Refused { refusal } => refusal.number as u64 * 0x100 + 10,
     }
 }

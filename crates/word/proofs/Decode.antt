@@ -11,6 +11,7 @@ use Rattle.word.specs.First.{choose}
 use Rattle.word.specs.Parts.{bits, hasBits, numbersIn}
 use Rattle.word.specs.Form.{Form, increasing, nonIncreasing, sliConditional, returning, long, oldJump, jump, call, everythingElse, forms, formIn, formOf}
 use Rattle.word.specs.Reading.{commandIn}
+use Rattle.word.specs.declared.why.Why.the-variants as why
 use Rattle.word.specs.declared.reading.Reading.the-variants.{Increasing, NonIncreasing, Sli, Return, Long, OldJump, Jump, Call, Reserved}
 use Rattle.word.proofs.Table.{In, here, there, the-form}
 
@@ -74,23 +75,23 @@ module _ (w n : ℕ) where
     long-is half = by long (there (there (there (there here)))) (rw (half, low))
 
   -- a word that has no form's bits
-  none : formOf w ≡ everythingElse → Reserved ≡ commandIn (formOf w) w n
+  none : formOf w ≡ everythingElse → Reserved why.Form ≡ commandIn (formOf w) w n
   unfolding everythingElse commandIn
   none e = sym (ap (λ (g : Form). commandIn g w n) e)
 
-  pub three-is : bits 1 0 w ≡ 3 → Reserved ≡ commandIn (formOf w) w n
+  pub three-is : bits 1 0 w ≡ 3 → Reserved why.Form ≡ commandIn (formOf w) w n
   unfolding forms formIn hasBits choose increasing nonIncreasing sliConditional returning long oldJump jump call
   three-is low = none (simp (low, and-false, ne-eqb (bits 3 0 w) 0 (omega arith), ne-eqb (bits 31 0 w) 0x20000 (omega arith)))
 
   module _ (low : bits 1 0 w ≡ 0) where
-    pub odd-top-is : (bits 31 29 w ≡ 0 → ⊥) → (bits 31 29 w ≡ 1 → ⊥) → (bits 31 29 w ≡ 2 → ⊥) → Reserved ≡ commandIn (formOf w) w n
+    pub odd-top-is : (bits 31 29 w ≡ 0 → ⊥) → (bits 31 29 w ≡ 1 → ⊥) → (bits 31 29 w ≡ 2 → ⊥) → Reserved why.Form ≡ commandIn (formOf w) w n
     unfolding forms formIn hasBits choose increasing nonIncreasing sliConditional returning long oldJump jump call
     odd-top-is t0 t1 t2 =
         let half : (k : ℕ) → k < 2 ^ 13 → bits 31 16 w ≡ k → ⊥ = λ k h e. t0 (top-of w 16 13 ∙ omega arith) in
         let whole : bits 31 0 w ≡ 0x20000 → ⊥ = λ e. t0 (top-of w 0 29 ∙ omega arith) in
         none (simp (low, ne-eqb _ _ t0, ne-eqb _ _ t1, ne-eqb _ _ t2, ne-eqb _ _ (half 1 (omega arith)), ne-eqb _ _ (half 3 (omega arith)), ne-eqb _ _ whole))
 
-    pub odd-sli-is : bits 31 16 w ≡ 1 → (bits 3 0 w ≡ 0 → ⊥) → Reserved ≡ commandIn (formOf w) w n
+    pub odd-sli-is : bits 31 16 w ≡ 1 → (bits 3 0 w ≡ 0 → ⊥) → Reserved why.Form ≡ commandIn (formOf w) w n
     unfolding forms formIn hasBits choose increasing nonIncreasing sliConditional returning long oldJump jump call
     odd-sli-is half rest =
         let middle : bits 17 16 w ≡ 1 = rw (middle-of w, half) in
@@ -103,7 +104,7 @@ module _ (w n : ℕ) where
         → (bits 31 16 w ≡ 1 → ⊥)
         → (bits 31 16 w ≡ 3 → ⊥)
         → (bits 31 0 w ≡ 0x20000 → ⊥)
-        → Reserved ≡ commandIn (formOf w) w n
+        → Reserved why.Form ≡ commandIn (formOf w) w n
     unfolding forms formIn hasBits choose increasing nonIncreasing sliConditional returning long oldJump jump call
     rest-is middle top h1 h3 e =
         none (simp (low, and-false, ne-eqb _ _ middle, ne-eqb _ _ top, ne-eqb _ _ h1, ne-eqb _ _ h3, ne-eqb _ _ e))

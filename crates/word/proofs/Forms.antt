@@ -8,22 +8,25 @@ use mathlib.Core.Option.{Option, none, some}
 use native.Mathlib.Omega.{arith}
 use lib.Dec.{eqb}
 use lib.ListN.{getD}
-use Rattle.word.specs.First.{first, FirstIs, SomeHolds}
+use Rattle.word.specs.First.{choose, first, FirstIs, SomeHolds}
 use Rattle.word.specs.Setting.{settingCases, refusedOr}
 use Rattle.word.specs.Parts.{bits, Part, is, carries, address, spare, hasBits}
-use Rattle.word.specs.Form.{Form, everythingElse, forms as table, formOf, usable}
-use Rattle.word.specs.Reading.{number, form, values, commandIn, readingOf, readOf}
-use Rattle.word.specs.Promises.{Available, settingPlain}
+use Rattle.word.specs.Form.{Form, nowhere?, everythingElse, forms as table, formOf, whyNot, usable}
+use Rattle.word.specs.Reading.{number, form, values, why, commandIn, readingOf, readOf}
+use Rattle.word.specs.Promises.{Available, settingPlain, whyPlain}
 use Rattle.word.specs.Forms.{Row, rows, Each, Stands, ReadsAs, Forms, OneForm}
 use Rattle.word.specs.declared.setting.Setting.{Setting}
 use Rattle.word.specs.declared.reading.Reading.{Reading}
 use Rattle.word.specs.declared.reading.Reading.the-variants.{Refused}
 use Rattle.word.proofs.Alike.{Has, Same, AllSame, all-same}
+use Rattle.word.proofs.First.{by-test}
+use Rattle.word.proofs.Told.{no-why-of}
 use Rattle.word.proofs.Tests.{and-plain, equal-plain}
-use Rattle.word.proofs.Table.{In, here, there, the-form}
-use Rattle.word.proofs.RoundTrip.{read-by}
-use Rattle.word.proofs.Plainly.{form-plain, first-plain, some-plain, none-plain}
-use Rattle.word.proofs.Promises.{by-reading, read-plain, read-usable}
+use Rattle.word.proofs.Table.{In, here, there, the-form, by-form}
+use Rattle.word.proofs.Usable.{no-why, why-number}
+use Rattle.word.proofs.RoundTrip.{read-by, form-of-command}
+use Rattle.word.proofs.Plainly.{form-plain, why-plain, first-plain, some-plain, none-plain}
+use Rattle.word.proofs.Promises.{by-reading, is-command, read-plain, read-usable}
 
 -- whether a word's bits are what the parts say, in plain terms
 has-plain : (ps : List Part) (w : ℕ) → hasBits ps w ≡ true ↔ Has ps w
@@ -33,6 +36,17 @@ has-plain (is hi lo v ∷ ps) w = and-plain (eqb (bits hi lo w) v) (hasBits ps w
 has-plain (carries hi lo ∷ ps) w = has-plain ps w
 has-plain (address hi lo ∷ ps) w = has-plain ps w
 has-plain (spare hi lo ∷ ps) w = has-plain ps w
+
+-- W24: the why of a word's reading is what was found of its form
+why-is : (s : Setting) (w n : ℕ) → why (readingOf s w n) ≡ whyNot s (formOf w)
+unfolding readingOf why
+why-is s w n =
+    by-test (λ r. why r ≡ whyNot s (formOf w))
+    (λ u. no-why-of command (λ e. omega (arith, is-command s command (form-plain s command .0 (ap (usable s) (form-of-command w n) ∙ u)))) ∙ sym (no-why s (formOf w) u))
+    (λ u. why-number s (formOf w) u)
+  where
+    command : Reading
+    command = commandIn (formOf w) w n
 
 -- at a setting that has been checked
 module _ (s : Setting) (w n : ℕ) where
@@ -70,7 +84,7 @@ module _ (s : Setting) (w n : ℕ) where
     only =
         by-reading (λ r. number r ≡ x .number → Stands x) s w n
         (λ g j e u k. stands .1 (subst (λ (h : Form). (hasBits (h .word) w ≡ true) × (usable s h ≡ true)) (same-form g j k) (e, u)))
-        (λ k. absurd (omega (arith, below-nine)))
+        (λ y k. absurd (omega (arith, below-nine)))
 
     reads-as : ReadsAs (readingOf s w n) x
     reads-as =
@@ -78,6 +92,10 @@ module _ (s : Setting) (w n : ℕ) where
           exactly = (only, λ h. ap number (reads h) ∙ same .number-same);
           holds = λ e. ap values (reads (only e)) ∙ same .numbers-same;
         }
+
+    -- W20 to W24: of a word with the row's bits, the first why that applies to its form
+    row-why : x .bits → (k : ℕ) → why (readingOf s w n) ≡ some k ↔ FirstIs (whyPlain s (x .number)) k
+    row-why b k = rw (why-is s w n, form-of b, sym (same .number-same)) (rw (read-by w n i .same) at (why-plain s k (commandIn f w n)))
 
     not-reserved : number (readingOf s w n) ≡ 9 → Stands x → ⊥
     not-reserved e h = omega (arith, below-nine, sym e ∙ reads-as .exactly .1 h)
@@ -105,6 +123,15 @@ module _ (s : Setting) (w n : ℕ) where
   else-reserved k =
       by-reading (λ r. number r ≡ 9) s w n
       (λ f i e u. absurd (row-of (λ x. Stands x → ⊥) f (rows s w n) i (all-same s w n) k (λ x same none. none (stands f i x same .1 (e, u)))))
+      (λ y. refl)
+
+  -- W20
+  formless-why : Each (λ x. x .bits → ⊥) (rows s w n) → why (readingOf s w n) ≡ some 1
+  unfolding whyNot first choose nowhere? everythingElse
+  formless-why k =
+      why-is s w n
+      ∙ by-form (λ f. whyNot s f ≡ some 1) w
+      (λ f i e. absurd (row-of (λ x. x .bits → ⊥) f (rows s w n) i (all-same s w n) k (λ x same none. none (same .bits-same .0 (has-plain (f .word) w .0 e)))))
       refl
 
   no-values : number (readingOf s w n) ≡ 9 → values (readingOf s w n) ≡ []
@@ -112,12 +139,12 @@ module _ (s : Setting) (w n : ℕ) where
   no-values =
       by-reading (λ r. number r ≡ 9 → values r ≡ []) s w n
       (λ f i e u k. absurd (omega (arith, read-by w n i .command)))
-      (λ k. refl)
+      (λ y k. refl)
 
   -- no reading has the number of a refusal
-  at-most-nine : number (readingOf s w n) ≤ 9
+  pub at-most-nine : number (readingOf s w n) ≤ 9
   unfolding number
-  at-most-nine = by-reading (λ r. number r ≤ 9) s w n (λ f i e u. omega (arith, read-by w n i .command)) (omega arith)
+  at-most-nine = by-reading (λ r. number r ≤ 9) s w n (λ f i e u. omega (arith, read-by w n i .command)) (λ y. omega arith)
 
 -- at a setting that is refused
 module _ (s : Setting) (w n : ℕ) where
@@ -134,7 +161,7 @@ module _ (s : Setting) (w n : ℕ) where
   refusal m h = rw (first-plain s m .1 h)
 
   -- and at one that is not
-  accepted : (r : Reading) → r ≡ readOf s w n → (SomeHolds (settingPlain s) → ⊥) → r ≡ readingOf s w n
+  pub accepted : (r : Reading) → r ≡ readOf s w n → (SomeHolds (settingPlain s) → ⊥) → r ≡ readingOf s w n
   accepted r e k = e ∙ read-plain s w n (none-plain s .1 k)
 
 pub forms : Forms
@@ -147,6 +174,11 @@ forms =
             (λ h. by-row s w next (λ x. Stands x → ⊥) (λ f i x same. not-reserved s w next f i x same h), else-reserved s w next),
             no-values s w next,
           );
+      whys = λ s w next r e k.
+          subst (λ (y : Reading). Each (λ x. x .bits → (n : ℕ) → why y ≡ some n ↔ FirstIs (whyPlain s (x .number)) n) (rows s w next)) (sym (accepted s w next r e k))
+          (by-row s w next (λ x. x .bits → (n : ℕ) → why (readingOf s w next) ≡ some n ↔ FirstIs (whyPlain s (x .number)) n) (row-why s w next));
+      formless = λ s w next r e k none. ap why (accepted s w next r e k) ∙ formless-why s w next none;
+      unreserved = λ s w next r e k. no-why-of r k;
       refused = λ s w next r e. rw e (refusing s w next, refusal s w next);
     }
 

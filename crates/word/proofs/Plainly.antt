@@ -1,6 +1,6 @@
 -- The definitions' tests say what the promises' plain conditions say. Assumes nothing.
 use Prim.Native.Nat.{ℕ, _+_, _-_, _%_, _^_, _≤_, _<_}
-use mathlib.Core.Path.{_≡_, refl}
+use mathlib.Core.Path.{_≡_, refl, sym}
 use mathlib.Core.Bool.{Bool, true, false, not, _&&_, _||_, false≢true}
 use mathlib.Core.List.{List, [], _∷_, _++_}
 use mathlib.Core.Logic.{_↔_}
@@ -9,17 +9,17 @@ use native.Mathlib.Omega.{arith}
 use lib.Dec.{eqb, leb, ltb}
 use lib.ListN.{length}
 use borrow.Author.Tests.{lt-ltb, le-leb, eq-eqb, ltb-true, leb-true, eqb-true}
-use Rattle.word.specs.First.{choose, Case, first, PlainCase, FirstIs, SomeHolds}
+use Rattle.word.specs.First.{choose, Case, _when_, first, PlainCase, _if_, FirstIs, SomeHolds}
 use Rattle.word.specs.Setting.{settingCases, sizeCases}
 use Rattle.word.specs.Parts.{Part, is, carries, address, spare, numbersFit}
-use Rattle.word.specs.Form.{Where, either, only, nowhere, inMode, Form, usable, increasing, nonIncreasing, sliConditional, returning, long, oldJump, jump, call, everythingElse, forms}
+use Rattle.word.specs.Form.{Where, either, only, nowhere, nowhere?, inMode, Form, whyNot, usable, increasing, nonIncreasing, sliConditional, returning, long, oldJump, jump, call, everythingElse, forms}
 use Rattle.word.specs.Reading.{number, form, values}
 use Rattle.word.specs.Writing.{nextWord, ownWords, writeCases}
-use Rattle.word.specs.Promises.{Within, Available, size, settingPlain, sizePlain, writePlain}
+use Rattle.word.specs.Promises.{Within, Available, whyPlain, size, settingPlain, sizePlain, writePlain}
 use Rattle.word.specs.declared.setting.Setting.{Setting}
 use Rattle.word.specs.declared.reading.Reading.{Reading}
 use Rattle.word.specs.declared.reading.Reading.the-variants.{Increasing, NonIncreasing, Sli, Return, Long, OldJump, Jump, Call, Reserved, Refused}
-use Rattle.word.proofs.Usable.{usable-is}
+use Rattle.word.proofs.Usable.{usable-is, not-below-0}
 use Rattle.word.proofs.First.{Agree, first-is, first-holds, none-holds}
 use Rattle.word.proofs.Tests.{both, not-plain, or-plain, and-plain, less-plain, equal-plain}
 
@@ -65,7 +65,7 @@ within-plain (Long s m c) = (λ f. (f .0, f .1 .0, f .1 .1, f .1 .2 .0), λ w. (
 within-plain (OldJump t) = (λ f. (f .0, f .1), λ w. (w .0, w .1, tt))
 within-plain (Jump t) = (λ f. (f .0, f .1), λ w. (w .0, w .1, tt))
 within-plain (Call t) = (λ f. (f .0, f .1), λ w. (w .0, w .1, tt))
-within-plain Reserved = (λ f. tt, λ w. tt)
+within-plain (Reserved y) = (λ f. tt, λ w. tt)
 within-plain (Refused r) = (λ f. tt, λ w. tt)
 
 pub field-plain : (r : Reading) → numbersFit (form r .word ++ form r .next) (values r) ≡ true ↔ Within r
@@ -114,7 +114,7 @@ available-plain s (Long b m c) = (λ p. p .1, λ a. (omega arith, a, tt))
 available-plain s (OldJump t) = (λ p. p .1, λ a. (omega arith, a, tt))
 available-plain s (Jump t) = (λ p. (p .0, p .1), λ a. (a .0, a .1, tt))
 available-plain s (Call t) = (λ p. (p .0, p .1), λ a. (a .0, a .1, tt))
-available-plain s Reserved = (λ p. p .1, λ a. absurd a)
+available-plain s (Reserved y) = (λ p. p .1, λ a. absurd a)
 available-plain s (Refused r) = (λ p. p .1, λ a. absurd a)
 
 pub form-plain : (s : Setting) (r : Reading) → usable s (form r) ≡ true ↔ Available s r
@@ -122,6 +122,37 @@ form-plain s r =
     let p = usable-plain s (form r) in
     let q = available-plain s r in
     (λ e. q .0 (p .0 e), λ a. p .1 (q .1 a))
+
+-- the first why, of what keeps a form from being used
+off-plain : (b : Bool) → not b ≡ true ↔ b ≡ false
+off-plain true = (λ e. sym e, λ e. sym e)
+off-plain false = (λ e. refl, λ e. refl)
+
+module _ (s : Setting) (n : ℕ) where
+  abbrev l : ℕ
+  l = s .level .number
+
+  abbrev m : ℕ
+  m = s .mode .number
+
+  from-level : (k : ℕ) → first (2 when ltb l k ∷ 3 when not (eqb m 0) ∷ []) ≡ some n ↔ FirstIs (2 if (l < k) ∷ 3 if (m ≡ 0 → ⊥) ∷ []) n
+  from-level k = first-is (2 when ltb l k ∷ 3 when not (eqb m 0) ∷ []) (2 if (l < k) ∷ 3 if (m ≡ 0 → ⊥) ∷ []) (refl, less-plain l k, (refl, not-plain (eqb m 0) (equal-plain m 0), tt)) n
+
+  in-mode : (k : ℕ) → first (3 when not (eqb m k) ∷ []) ≡ some n ↔ FirstIs (3 if (m ≡ k → ⊥) ∷ []) n
+  in-mode k = first-is (3 when not (eqb m k) ∷ []) (3 if (m ≡ k → ⊥) ∷ []) (refl, not-plain (eqb m k) (equal-plain m k), tt) n
+
+  pub why-plain : (r : Reading) → whyNot s (form r) ≡ some n ↔ FirstIs (whyPlain s (number r)) n
+  unfolding whyNot first choose nowhere? inMode form number forms increasing nonIncreasing sliConditional returning long oldJump jump call everythingElse
+  why-plain (Increasing c b m) = rw (not-below-0 l) (first-is [] [] tt n)
+  why-plain (NonIncreasing c b m) = first-is (2 when ltb l 1 ∷ []) (2 if (l < 1) ∷ []) (refl, less-plain l 1, tt) n
+  why-plain (Sli k) = first-is (2 when ltb l 3 ∷ 4 when not (s .sli) ∷ []) (2 if (l < 3) ∷ 4 if (s .sli ≡ false) ∷ []) (refl, less-plain l 3, (refl, off-plain (s .sli), tt)) n
+  why-plain Return = from-level 2
+  why-plain (Long b m c) = rw (not-below-0 l) (in-mode 1)
+  why-plain (OldJump t) = rw (not-below-0 l) (in-mode 0)
+  why-plain (Jump t) = from-level 2
+  why-plain (Call t) = from-level 2
+  why-plain (Reserved y) = first-is (1 when true ∷ []) (1 if Unit {0} ∷ []) (refl, (λ e. tt, λ e. refl), tt) n
+  why-plain (Refused r) = first-is (1 when true ∷ []) (1 if Unit {0} ∷ []) (refl, (λ e. tt, λ e. refl), tt) n
 
 -- ROOM's test
 pub size-is : (r : Reading) → length (ownWords r) ≡ size r
@@ -134,7 +165,7 @@ size-is (Long s m c) = refl
 size-is (OldJump t) = refl
 size-is (Jump t) = refl
 size-is (Call t) = refl
-size-is Reserved = refl
+size-is (Reserved y) = refl
 size-is (Refused r) = refl
 
 -- LEVEL, MODE and SLI, with what comes after them

@@ -1,28 +1,33 @@
 -- The promises about words, each under the name of its statement. Assumes nothing.
 use Prim.Native.Nat.{ℕ, suc, _+_, _^_, _≤_, _<_}
 use mathlib.Core.Path.{_≡_, refl, sym, ap, subst, _∙_}
-use mathlib.Core.Bool.{Bool, true, false}
+use mathlib.Core.Bool.{Bool, true, false, not, false≢true}
 use mathlib.Core.List.{List, [], _∷_, _++_}
-use mathlib.Core.Option.{Option, none, some}
+use mathlib.Core.Logic.{_↔_}
+use mathlib.Core.Option.{Option, none, some, Option·none-ne-some}
 use native.Mathlib.Nat.{zero-add, div-one}
 use native.Mathlib.Omega.{arith}
 use lib.Dec.{ltb}
 use lib.ListN.{length, getD, drop}
 use lib.Seq.{sets, sets-eq, length-sets, drop-at}
-use borrow.Author.Tests.{lt-ltb, le-ltb, not-false, ltb-false}
+use borrow.Author.Tests.{lt-ltb, le-ltb, eq-eqb, not-false, ltb-false, eqb-true}
 use Rattle.word.specs.Lowest.{found?}
-use Rattle.word.specs.First.{choose, first}
-use Rattle.word.specs.Setting.{refusedOr, checkOf, settingCases, sizeCases}
+use Rattle.word.specs.First.{choose, Case, _when_, first, FirstIs}
+use Rattle.word.specs.Setting.{LEVEL, MODE, SLI, FIELD, FORM, ROOM, levelRefused, modeRefused, sliRefused, refusedOr, checkOf, settingCases, sizeCases}
 use Rattle.word.specs.Parts.{Part, hasBits, numbersIn, numbersFit, wordWith}
+use Rattle.word.specs.Why.{whyOf}
 use Rattle.word.specs.Form.{Form, nowhere?, inMode, whyNot, usable, increasing, nonIncreasing, sliConditional, returning, long, oldJump, jump, call, everythingElse, forms, formIn, formOf}
-use Rattle.word.specs.Reading.{number, form, values, commandIn, readingOf, readOf, readAtOf}
-use Rattle.word.specs.Writing.{nextWord, ownWords, writeCases, writeOf, outAfter}
-use Rattle.word.specs.Answers.{checkRefusal, readingRefusal, placeRefusal, writtenRefusal, placeValues, writtenValues}
+use Rattle.word.specs.Reading.{number, form, values, why, commandIn, readingOf, readOf, readAtOf}
+use Rattle.word.specs.Writing.{nextWord, ownWords, writeCases, refusing, writeOf, outAfter}
+use Rattle.word.specs.Answers.{checkRefusal, readingRefusal, placeRefusal, writtenRefusal, placeValues, placeWhy, writtenValues, writtenWhy}
 use Rattle.word.specs.Contracts.{Writes}
 use Rattle.word.specs.Numbers.{Numbers}
-use Rattle.word.specs.Promises.{settingPlain, sizePlain, writePlain, Within, Available, size, sameWords, Refused, One, AtPlace, ReadBack, WriteBack, Widths, Specials, LittleEndian}
+use Rattle.word.specs.Promises.{settingPlain, whyPlain, sizePlain, writePlain, Within, Available, size, sameWords, Refused, One, SaysWhy, AtPlace, ReadBack, WriteBack, Widths, Specials, LittleEndian}
+use Rattle.word.specs.declared.setting.Refusal.{Refusal}
 use Rattle.word.specs.declared.setting.Setting.{Setting}
 use Rattle.word.specs.declared.setting.Check.the-variants as check
+use Rattle.word.specs.declared.why.Why.{Why}
+use Rattle.word.specs.declared.why.Why.the-variants as why
 use Rattle.word.specs.declared.reading.Reading.{Reading}
 use Rattle.word.specs.declared.reading.Reading.the-variants.{Increasing, NonIncreasing, Sli, Return, Long, OldJump, Jump, Call, Reserved, Refused as Refusing}
 use Rattle.word.specs.declared.reading.Place.the-variants as place
@@ -30,9 +35,10 @@ use Rattle.word.specs.declared.writing.Written.{Written}
 use Rattle.word.specs.declared.writing.Written.the-variants as written
 use Rattle.word.proofs.First.{one-outcome, by-test, choose-true, choose-false, first-none, append-none}
 use Rattle.word.proofs.Settings.{accepted, told-first, told-plain, none-fine}
+use Rattle.word.proofs.Usable.{why-number}
 use Rattle.word.proofs.Table.{In, by-form}
 use Rattle.word.proofs.RoundTrip.{read-by, left, next-is, form-back, command-back, numbers-fit, words-back}
-use Rattle.word.proofs.Plainly.{field-plain, form-plain, size-is, setting-agree, size-agree, write-agree}
+use Rattle.word.proofs.Plainly.{field-plain, form-plain, why-plain, size-is, setting-agree, size-agree, write-agree}
 use Rattle.word.proofs.Writer.{Past, by-words}
 use Rattle.word.proofs.Methods.{specials-plain}
 use Rattle.word.proofs.Bytes.{words-length, word-is, word-past}
@@ -48,20 +54,20 @@ not-refused (Long s m c) h = refl
 not-refused (OldJump t) h = refl
 not-refused (Jump t) h = refl
 not-refused (Call t) h = refl
-not-refused Reserved h = refl
+not-refused (Reserved y) h = refl
 not-refused (Refusing r) h = absurd (omega arith)
 
--- to show something of a reading, show it of each command that a form of the table reads where it may be used, and of 'reserved'
+-- to show something of a reading, show it of each command that a form of the table reads where it may be used, and of 'reserved', whatever the why
 pub by-reading : (P : Reading → Type 0) (s : Setting) (w n : ℕ)
     → ((f : Form) → In f forms → hasBits (f .word) w ≡ true → usable s f ≡ true → P (commandIn f w n))
-    → P Reserved
+    → ((y : Why) → P (Reserved y))
     → P (readingOf s w n)
 unfolding readingOf commandIn everythingElse
-by-reading P s w n k reserved = by-test P (λ t. by-form (λ f. usable s f ≡ true → P (commandIn f w n)) w k (λ u. reserved) t) (λ t. reserved)
+by-reading P s w n k reserved = by-test P (λ t. by-form (λ f. usable s f ≡ true → P (commandIn f w n)) w k (λ u. reserved why.Form) t) (λ t. reserved _)
 
 plain : (s : Setting) (w n : ℕ) → readingRefusal (readingOf s w n) ≡ none
 unfolding readingRefusal
-plain s w n = by-reading (λ r. readingRefusal r ≡ none) s w n (λ f i e u. not-refused (commandIn f w n) (read-by w n i .command)) refl
+plain s w n = by-reading (λ r. readingRefusal r ≡ none) s w n (λ f i e u. not-refused (commandIn f w n) (read-by w n i .command)) (λ y. refl)
 
 found : (s : Setting) (ws : List ℕ) (p : ℕ) → placeRefusal (choose (ltb p (length ws)) (place.Word (readingOf s (getD ws p 0) (getD ws (p + 1) 0))) place.Past) ≡ none
 unfolding placeRefusal
@@ -72,6 +78,12 @@ untouched : (a : Written) (r : Reading) (out exit : List ℕ) (n : ℕ) → exit
 unfolding outAfter writtenRefusal
 untouched (written.Words k) r out exit n e h = let z : _≡_ {A = ℕ} 0 1 = cc in absurd (omega arith)
 untouched (written.Refused x) r out exit n e h = e
+untouched (written.Form y) r out exit n e h = e
+
+-- a refusal of the writer's tells its number, FORM's too
+tells-refusal : (s : Setting) (r : Reading) (x : Refusal) → writtenRefusal (refusing s r x) ≡ some (x .number)
+unfolding refusing writtenRefusal
+tells-refusal s r x = by-test (λ a. writtenRefusal a ≡ some (x .number)) (λ t. ap some (sym (eqb-true _ _ t))) (λ t. refl)
 
 pub refused : Refused
 unfolding checkOf readOf readAtOf writeOf checkRefusal readingRefusal placeRefusal writtenRefusal
@@ -81,15 +93,58 @@ refused =
       read = λ s w next a c n. told-plain Refusing readingRefusal (λ x. refl) (settingCases s) (settingPlain s) (readingOf s w next) a (setting-agree s [] [] tt) (plain s w next) c n;
       read-at = λ s ws p a c n. told-plain place.Refused placeRefusal (λ x. refl) (settingCases s ++ sizeCases (length ws)) (settingPlain s ++ sizePlain ws) _ a
           (setting-agree s (sizeCases (length ws)) (sizePlain ws) (size-agree ws)) (found s ws p) c n;
-      write = λ s r out a exit c n. told-plain written.Refused writtenRefusal (λ x. refl) (settingCases s ++ writeCases s r (length out)) (settingPlain s ++ writePlain s r out) _ a
+      write = λ s r out a exit c n. told-plain (refusing s r) writtenRefusal (tells-refusal s r) (settingCases s ++ writeCases s r (length out)) (settingPlain s ++ writePlain s r out) _ a
           (setting-agree s (writeCases s r (length out)) (writePlain s r out) (write-agree s r out)) refl (c .answer) n;
       unwritten = λ s r out a exit c n e. untouched a r out exit n (c .memory) e;
     }
+
+-- FORM is given of a command that may not be used
+form-given : (s : Setting) (r : Reading) (space n : ℕ) → n ≡ FORM → first (settingCases s ++ writeCases s r space) ≡ some n → usable s (form r) ≡ false
+unfolding first choose
+form-given s r space n f =
+    go (levelRefused l) (modeRefused l (s .mode .number)) (sliRefused l (s .sli)) (numbersFit (form r .word ++ form r .next) (values r)) (usable s (form r)) (ltb space (length (ownWords r)))
+  where
+    l : ℕ
+    l = s .level .number
+
+    other : {m : ℕ} {A : Type 0} → (m ≡ FORM → ⊥) → some m ≡ some n → A
+    other {m} h e = let z : m ≡ n = cc in absurd (h (z ∙ f))
+
+    go : (a b c d u v : Bool)
+        → first (LEVEL when a ∷ MODE when b ∷ SLI when c ∷ FIELD when not d ∷ FORM when not u ∷ ROOM when v ∷ []) ≡ some n → u ≡ false
+    go true b c d u v e = other (λ h. omega arith) e
+    go false true c d u v e = other (λ h. omega arith) e
+    go false false true d u v e = other (λ h. omega arith) e
+    go false false false false u v e = other (λ h. omega arith) e
+    go false false false true false v e = refl
+    go false false false true true true e = other (λ h. omega arith) e
+    go false false false true true false e = absurd (Option·none-ne-some n e)
+
+-- X6
+pub says-why : SaysWhy
+unfolding writeOf refusedOr refusing writtenWhy writtenRefusal
+says-why s r out a exit c n = subst Says (sym (c .answer)) (go (first cases) refl)
+  where
+    cases : List Case
+    cases = settingCases s ++ writeCases s r (length out)
+
+    Says : Written → Type 0
+    Says x = writtenWhy x ≡ some n ↔ ((writtenRefusal x ≡ some 12) × FirstIs (whyPlain s (number r)) n)
+
+    go : (o : Option ℕ) → first cases ≡ o → Says (refusedOr (refusing s r) o (written.Words (length (ownWords r))))
+    go none e = (λ h. absurd (Option·none-ne-some n h), λ h. absurd (Option·none-ne-some 12 (h .0)))
+    go (some m) e =
+        by-test Says
+        (λ t.
+        let p = why-plain s n r in
+        rw (why-number s (form r) (form-given s r (length out) m (eqb-true m FORM t) e)) (λ h. (refl, p .0 h), λ h. p .1 (h .1)))
+        (λ t. (λ h. absurd (Option·none-ne-some n h), λ h. let z : m ≡ 12 = cc in absurd (false≢true (sym t ∙ eq-eqb m FORM z))))
 
 pub one : One
 one =
     record {
       check = λ s a b p q. one-outcome p q;
+      number = λ y a b p q. one-outcome p q;
       read = λ s w next a b p q. one-outcome p q;
       read-at = λ s ws i a b p q. one-outcome p q;
       write = λ s r out a b x y p q.
@@ -100,7 +155,7 @@ one =
     }
 
 pub numbers : Numbers
-unfolding readOf refusedOr first choose found? readingOf commandIn formIn forms hasBits numbersIn usable whyNot nowhere? inMode increasing nonIncreasing sliConditional returning long oldJump jump call everythingElse
+unfolding whyOf readOf refusedOr first choose found? readingOf commandIn formIn forms hasBits numbersIn usable whyNot nowhere? inMode increasing nonIncreasing sliConditional returning long oldJump jump call everythingElse
 numbers next = rw (div-one next)
 
 -- a refusal has no number to be held within a width
@@ -114,7 +169,7 @@ unfolding readOf
 widths s w next r e =
     subst Within (sym e)
     (kept (first (settingCases s)) (readingOf s w next)
-    (by-reading Within s w next (λ f i t u. field-plain (commandIn f w next) .0 (numbers-fit f i w next)) tt))
+    (by-reading Within s w next (λ f i t u. field-plain (commandIn f w next) .0 (numbers-fit f i w next)) (λ y. tt)))
 
 -- what an accepted command has passed
 pub record Passed (s : Setting) (r : Reading) (out : List ℕ) (a : Written) : Type 0 where
@@ -128,7 +183,7 @@ pub passed : (s : Setting) (r : Reading) (out : List ℕ) (a : Written) → a �
 unfolding writeOf writtenRefusal
 passed s r out a e h =
     let cases = settingCases s ++ writeCases s r (length out) in
-    let all : first cases ≡ none = sym (told-first written.Refused writtenRefusal (λ x. refl) cases _ a refl e) ∙ h in
+    let all : first cases ≡ none = sym (told-first (refusing s r) writtenRefusal (tells-refusal s r) cases _ a refl e) ∙ h in
     let two = append-none (settingCases s) (writeCases s r (length out)) all in
     let field = first-none _ _ (two .1) in
     let available = first-none _ _ (field .1) in
@@ -138,7 +193,7 @@ passed s r out a e h =
       fields = not-false _ (field .0);
       there = not-false _ (available .0);
       room = ltb-false _ _ (room .0);
-      words = e ∙ accepted written.Refused _ all;
+      words = e ∙ accepted (refusing s r) _ all;
     }
 
 -- a command that may be used somewhere is one of the eight
@@ -152,7 +207,7 @@ is-command s (Long b m c) h = omega arith
 is-command s (OldJump t) h = omega arith
 is-command s (Jump t) h = omega arith
 is-command s (Call t) h = omega arith
-is-command s Reserved h = absurd h
+is-command s (Reserved y) h = absurd h
 is-command s (Refusing r) h = absurd h
 
 -- what stands in the output: the words, and then what stood there
@@ -218,13 +273,13 @@ commands : (s : Setting) (w n : ℕ) (r : Reading) → r ≡ readOf s w n → nu
 unfolding readOf readingOf refusedOr choose number
 commands s w n r e h = at-setting (first (settingCases s)) refl e
   where
-    at-form : (u : Bool) → usable s (formOf w) ≡ u → first (settingCases s) ≡ none → r ≡ choose u (commandIn (formOf w) w n) Reserved → Commands s w n r
+    at-form : (u : Bool) → usable s (formOf w) ≡ u → first (settingCases s) ≡ none → r ≡ choose u (commandIn (formOf w) w n) (Reserved (whyOf (whyNot s (formOf w)))) → Commands s w n r
     at-form true u d e =
         let t = of-table w n (subst (λ (x : Reading). number x ≤ 8) e h) in
         record { setting = d; there = u; member = t .0; bits-fit = t .1; is = e }
     at-form false u d e = absurd (let z : 9 ≤ 8 = subst (λ (x : Reading). number x ≤ 8) e h in omega arith)
 
-    at-setting : (o : Option ℕ) → first (settingCases s) ≡ o → r ≡ refusedOr Refusing o (choose (usable s (formOf w)) (commandIn (formOf w) w n) Reserved) → Commands s w n r
+    at-setting : (o : Option ℕ) → first (settingCases s) ≡ o → r ≡ refusedOr Refusing o (choose (usable s (formOf w)) (commandIn (formOf w) w n) (Reserved (whyOf (whyNot s (formOf w))))) → Commands s w n r
     at-setting none d e = at-form (usable s (formOf w)) refl d e
     at-setting (some m) d e = absurd (let z : 10 ≤ 8 = subst (λ (x : Reading). number x ≤ 8) e h in omega arith)
 
@@ -260,15 +315,16 @@ nothing (some n) = refl
 
 -- where no case of `read_at` holds, none of `read` does, and the answer is what stands at the place
 pub at-place : AtPlace
-unfolding readOf readAtOf placeRefusal placeValues
+unfolding readOf readAtOf placeRefusal placeValues placeWhy
 at-place =
     record {
       inside = λ s ws p a r c e h d.
           let cases = settingCases s ++ sizeCases (length ws) in
           let all : first cases ≡ none = sym (told-first place.Refused placeRefusal (λ x. refl) cases _ a (found s ws p) c) ∙ e in
           let two = append-none (settingCases s) (sizeCases (length ws)) all in
-          ap placeValues (c ∙ accepted place.Refused _ all ∙ choose-true (lt-ltb _ _ h) _ _)
-          ∙ ap (λ (x : Reading). number x ∷ values x) (sym (d ∙ accepted Refusing _ (two .0)));
+          let there = c ∙ accepted place.Refused _ all ∙ choose-true (lt-ltb _ _ h) _ _ in
+          let same = sym (d ∙ accepted Refusing _ (two .0)) in
+          (ap placeValues there ∙ ap (λ (x : Reading). number x ∷ values x) same, ap placeWhy there ∙ ap why same);
       past = λ s ws p a c h.
           let o = first (settingCases s ++ sizeCases (length ws)) in
           ap placeValues (c ∙ ap (refusedOr place.Refused o) (choose-false (le-ltb _ _ h) _ _)) ∙ nothing o;

@@ -65,7 +65,7 @@ made (Long s m c) h = record { member = there (there (there (there here))); coun
 made (OldJump t) h = record { member = there (there (there (there (there here)))); count = refl; again = refl }
 made (Jump t) h = record { member = there (there (there (there (there (there here))))); count = refl; again = refl }
 made (Call t) h = record { member = there (there (there (there (there (there (there here)))))); count = refl; again = refl }
-made Reserved h = absurd (omega arith)
+made (Reserved y) h = absurd (omega arith)
 made (Refused r) h = absurd (omega arith)
 
 -- Of every form of the table: the command that it reads from a word has that form and just the numbers in the words.

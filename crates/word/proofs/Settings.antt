@@ -64,7 +64,7 @@ module _ (s : Setting) where
   unfolding checkOf checkRefusal
   check-first = told-first Refused checkRefusal (λ x. refl) (settingCases s) Fine (checkOf s) refl refl
 
-  refused-first : (x : Refusal) → checkOf s ≡ Refused x → first (settingCases s) ≡ some (x .number)
+  pub refused-first : (x : Refusal) → checkOf s ≡ Refused x → first (settingCases s) ≡ some (x .number)
   unfolding checkRefusal
   refused-first x e = sym check-first ∙ ap checkRefusal e
 

@@ -5,6 +5,7 @@ use mathlib.Core.Bool.{Bool}
 use mathlib.Core.List.{List}
 use lib.ListN.{length, getD}
 use Rattle.word.specs.Setting.{checkOf}
+use Rattle.word.specs.Why.{whyNumber}
 use Rattle.word.specs.Reading.{readOf, readAtOf}
 use Rattle.word.specs.Writing.{writeOf, outAfter}
 use Rattle.word.specs.Special.{presentOf}
@@ -12,6 +13,7 @@ use Rattle.word.specs.Lent.{wordsOf}
 use Rattle.word.specs.declared.setting.Level.{Level}
 use Rattle.word.specs.declared.setting.Setting.{Setting}
 use Rattle.word.specs.declared.setting.Check.{Check}
+use Rattle.word.specs.declared.why.Why.{Why}
 use Rattle.word.specs.declared.reading.Reading.{Reading}
 use Rattle.word.specs.declared.reading.Place.{Place}
 use Rattle.word.specs.declared.writing.Written.{Written}
@@ -19,6 +21,10 @@ use Rattle.word.specs.declared.writing.Written.{Written}
 -- `Setting::check`
 abbrev pub Checks : Setting → Check → Type 0
 Checks s r = r ≡ checkOf s
+
+-- `Why::number`
+abbrev pub Counts : Why → ℕ → Type 0
+Counts y r = r ≡ whyNumber y
 
 -- `read`, of a word and the word after it
 abbrev pub Reads : Setting → ℕ → ℕ → Reading → Type 0

@@ -9,7 +9,9 @@ use lib.ListN.{getD}
 use Rattle.word.specs.First.{choose, Case, first, _when_}
 use Rattle.word.specs.Lowest.{found?}
 use Rattle.word.specs.Parts.{Part, is, carries, address, spare, hasBits}
+use Rattle.word.specs.Why.{NO_SUCH_FORM, NOT_AT_LEVEL, NOT_IN_MODE, SLI_OFF}
 use Rattle.word.specs.declared.setting.Setting.{Setting}
+use Rattle.word.specs.declared.why.Why.the-variants as why
 use Rattle.word.specs.declared.reading.Reading.{Reading}
 use Rattle.word.specs.declared.reading.Reading.the-variants.{Increasing, NonIncreasing, Sli, Return, Long, OldJump, Jump, Call, Reserved}
 
@@ -88,7 +90,7 @@ call = row (address 31 2 ∷ is 1 0 2 ∷ []) [] 2 (only 0) false (one Call)
 
 -- W12: what has none of these forms
 unfoldable pub everythingElse : Form
-everythingElse = row [] [] 0 nowhere false (λ ns. Reserved)
+everythingElse = row [] [] 0 nowhere false (λ ns. Reserved why.Form)
 
 unfoldable pub forms : List Form
 forms = increasing ∷ nonIncreasing ∷ sliConditional ∷ returning ∷ long ∷ oldJump ∷ jump ∷ call ∷ []
@@ -101,20 +103,7 @@ formIn (f ∷ fs) w = choose (hasBits (f .word) w) f (formIn fs w)
 abbrev pub formOf : ℕ → Form
 formOf w = formIn forms w
 
--- Why a form may not be used at a setting: there is no such form, or not at this level, not in this mode, or not with SLI off.
-abbrev pub NO_SUCH_FORM : ℕ
-NO_SUCH_FORM = 1
-
-abbrev pub NOT_AT_LEVEL : ℕ
-NOT_AT_LEVEL = 2
-
-abbrev pub NOT_IN_MODE : ℕ
-NOT_IN_MODE = 3
-
-abbrev pub SLI_OFF : ℕ
-SLI_OFF = 4
-
--- W11: these, each with its condition
+-- W11, W20 to W23: why a form may not be used at a setting
 abbrev pub unusableCases : Setting → Form → List Case
 unusableCases s f =
     NO_SUCH_FORM when nowhere? (f .mode)
@@ -123,7 +112,7 @@ unusableCases s f =
     ∷ SLI_OFF when (f .sli && not (s .sli))
     ∷ []
 
--- the first that applies
+-- W24: the first that applies
 unfoldable pub whyNot : Setting → Form → Option ℕ
 whyNot s f = first (unusableCases s f)
 

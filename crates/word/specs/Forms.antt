@@ -4,10 +4,11 @@ use mathlib.Core.Path.{_≡_}
 use mathlib.Core.Bool.{true}
 use mathlib.Core.List.{List, [], _∷_}
 use mathlib.Core.Logic.{_↔_}
+use mathlib.Core.Option.{none, some}
 use Rattle.word.specs.First.{FirstIs, SomeHolds}
-use Rattle.word.specs.Reading.{number, values}
+use Rattle.word.specs.Reading.{number, values, why}
 use Rattle.word.specs.Contracts.{Reads}
-use Rattle.word.specs.Promises.{settingPlain}
+use Rattle.word.specs.Promises.{settingPlain, whyPlain}
 use Rattle.word.specs.declared.setting.Setting.{Setting}
 use Rattle.word.specs.declared.reading.Reading.{Reading}
 
@@ -103,6 +104,20 @@ pub record Forms : Type 0 where
       → Reads s w next r
       → (SomeHolds (settingPlain s) → ⊥)
       → (number r ≡ 9 ↔ Each (λ x. Stands x → ⊥) (rows s w next)) × (number r ≡ 9 → values r ≡ [])
+  -- W20 to W24: and why it is so: a word with a row's bits has the first that applies to that form, and one with no row's has 1
+  pub whys :
+      (s : Setting) (w next : ℕ) (r : Reading)
+      → Reads s w next r
+      → (SomeHolds (settingPlain s) → ⊥)
+      → Each (λ x. x .bits → (n : ℕ) → why r ≡ some n ↔ FirstIs (whyPlain s (x .number)) n) (rows s w next)
+  pub formless :
+      (s : Setting) (w next : ℕ) (r : Reading)
+      → Reads s w next r
+      → (SomeHolds (settingPlain s) → ⊥)
+      → Each (λ x. x .bits → ⊥) (rows s w next)
+      → why r ≡ some 1
+  -- W24: no other reading has a why
+  pub unreserved : (s : Setting) (w next : ℕ) (r : Reading) → Reads s w next r → (number r ≡ 9 → ⊥) → why r ≡ none
   -- W13: number 10 exactly at a setting that is refused, with the refusal's number
   pub refused :
       (s : Setting) (w next : ℕ) (r : Reading)

@@ -2,6 +2,7 @@ pub mod First
 pub mod Lowest
 pub mod Setting
 pub mod Parts
+pub mod Why
 pub mod Form
 pub mod Reading
 pub mod Writing

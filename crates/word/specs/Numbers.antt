@@ -6,6 +6,7 @@ use mathlib.Core.List.{List, [], _∷_, map}
 use mathlib.Core.Path.{_≡_}
 use Rattle.word.specs.Reading.{readOf}
 use Rattle.word.specs.declared.setting.Setting.{Setting}
+use Rattle.word.specs.declared.why.Why.the-variants as why
 use Rattle.word.specs.declared.reading.Reading.{Reading}
 use Rattle.word.specs.declared.reading.Reading.the-variants.{Increasing, NonIncreasing, Sli, Return, Long, OldJump, Jump, Call, Reserved}
 
@@ -29,13 +30,19 @@ table next =
     ∷ row 4 1 true 0x00034100 (Long 2 0x0100 (next % 0x1000000))
     ∷ row 3 0 true 0x3ffffffc (OldJump 0x1ffffffc)
     ∷ row 3 0 true 0x00002002 (Call 0x2000)
-    ∷ row 0 0 false 0x400cfffc Reserved
-    ∷ row 3 0 false 0x00010050 Reserved
-    ∷ row 3 0 true 0x00020004 Reserved
-    ∷ row 3 0 true 0x00000003 Reserved
+    ∷ row 0 0 false 0x400cfffc (Reserved why.Level)
+    ∷ row 3 0 false 0x00010050 (Reserved why.Sli)
+    ∷ row 3 0 true 0x00020004 (Reserved why.Form)
+    ∷ row 3 0 true 0x00000003 (Reserved why.Form)
+    ∷ row 2 0 false 0x00010050 (Reserved why.Level)
+    ∷ row 1 0 false 0x00002002 (Reserved why.Level)
+    ∷ row 0 0 false 0x00034100 (Reserved why.Mode)
+    ∷ row 5 0 false 0x00034100 (Reserved why.Mode)
+    ∷ row 4 1 false 0x00020000 (Reserved why.Mode)
+    ∷ row 4 1 false 0x3ffffffc (Reserved why.Mode)
     ∷ row 2 0 false 0x00010001 (Jump 0x00010000)
     ∷ []
 
--- W1 to W8, W9, W10, W12, W14: every row reads as it says, for every next word
+-- W1 to W8, W9, W10, W12, W14, W20 to W24: every row reads as it says, for every next word
 abbrev pub Numbers : Type 0
 Numbers = (next : ℕ) → map (λ (x : Row). readOf (x .setting) (x .word) next) (table next) ≡ map (λ (x : Row). x .reading) (table next)

@@ -1,21 +1,24 @@
 -- The promises about words, each a statement that is proved under its own name in proofs/. They speak of the public
 -- functions through their contracts (Contracts.antt): of every answer and every output that a contract allows.
-use Prim.Native.Nat.{ℕ, _+_, _*_, _/_, _%_, _≤_, _<_}
+use Prim.Native.Nat.{ℕ, _+_, _-_, _*_, _/_, _%_, _≤_, _<_}
 use mathlib.Core.Path.{_≡_}
-use mathlib.Core.Bool.{Bool, true}
-use mathlib.Core.List.{List, [], _∷_, _++_}
+use mathlib.Core.Bool.{Bool, true, false}
+use mathlib.Core.List.{List, [], _∷_, _++_, map}
 use mathlib.Core.Logic.{_⊎_, _↔_}
 use mathlib.Core.Option.{none, some}
 use lib.Dec.{eqb}
 use lib.ListN.{length, getD, drop}
 use Rattle.word.specs.First.{choose, PlainCase, _if_, FirstIs}
-use Rattle.word.specs.Reading.{number, values, parameterCount}
+use Rattle.word.specs.Why.{whyNumber}
+use Rattle.word.specs.Reading.{number, values, why, parameterCount}
 use Rattle.word.specs.Lent.{wordsOf}
-use Rattle.word.specs.Answers.{checkRefusal, readingRefusal, placeRefusal, writtenRefusal, placeValues, writtenValues}
-use Rattle.word.specs.Contracts.{Checks, Reads, ReadsAt, Writes, Presents, LentAt}
+use Rattle.word.specs.Answers.{checkRefusal, readingRefusal, placeRefusal, writtenRefusal, placeValues, placeWhy, writtenValues, writtenWhy}
+use Rattle.word.specs.Contracts.{Checks, Counts, Reads, ReadsAt, Writes, Presents, LentAt}
 use Rattle.word.specs.declared.setting.Level.{Level}
 use Rattle.word.specs.declared.setting.Setting.{Setting}
 use Rattle.word.specs.declared.setting.Check.{Check}
+use Rattle.word.specs.declared.why.Why.{Why}
+use Rattle.word.specs.declared.why.Why.the-variants as why
 use Rattle.word.specs.declared.reading.Reading.{Reading}
 use Rattle.word.specs.declared.reading.Reading.the-variants.{Increasing, NonIncreasing, Sli, Return, Long, OldJump, Jump, Call, Reserved, Refused as Refusing}
 use Rattle.word.specs.declared.reading.Place.{Place}
@@ -41,7 +44,7 @@ Within (Long s m c) = (s < 8) × (m < 0x2000) × (m % 4 ≡ 0) × (c < 0x1000000
 Within (OldJump t) = (t < 0x20000000) × (t % 4 ≡ 0)
 Within (Jump t) = (t < 0x100000000) × (t % 4 ≡ 0)
 Within (Call t) = (t < 0x100000000) × (t % 4 ≡ 0)
-Within Reserved = Unit {0}
+Within (Reserved y) = Unit {0}
 Within (Refusing r) = Unit {0}
 
 -- W11, X5: a command may be used at a setting; what is no command, nowhere
@@ -54,8 +57,26 @@ Available s (Long b m c) = s .mode .number ≡ 1
 Available s (OldJump t) = s .mode .number ≡ 0
 Available s (Jump t) = (2 ≤ s .level .number) × (s .mode .number ≡ 0)
 Available s (Call t) = (2 ≤ s .level .number) × (s .mode .number ≡ 0)
-Available s Reserved = ⊥
+Available s (Reserved y) = ⊥
 Available s (Refusing r) = ⊥
+
+-- W20 to W23: what keeps each form from being used at a setting, in order. The forms stand by their numbers, from 1: increasing,
+-- non-increasing, SLI conditional, return, long, old jump, jump, call
+abbrev pub whyTable : Setting → List (List PlainCase)
+whyTable s =
+    []
+    ∷ (2 if (s .level .number < 1) ∷ [])
+    ∷ (2 if (s .level .number < 3) ∷ 4 if (s .sli ≡ false) ∷ [])
+    ∷ (2 if (s .level .number < 2) ∷ 3 if (s .mode .number ≡ 0 → ⊥) ∷ [])
+    ∷ (3 if (s .mode .number ≡ 1 → ⊥) ∷ [])
+    ∷ (3 if (s .mode .number ≡ 0 → ⊥) ∷ [])
+    ∷ (2 if (s .level .number < 2) ∷ 3 if (s .mode .number ≡ 0 → ⊥) ∷ [])
+    ∷ (2 if (s .level .number < 2) ∷ 3 if (s .mode .number ≡ 0 → ⊥) ∷ [])
+    ∷ []
+
+-- W20: what is none of them has no form
+abbrev pub whyPlain : Setting → ℕ → List PlainCase
+whyPlain s k = getD (whyTable s) (k - 1) (1 if Unit {0} ∷ [])
 
 -- X1, W15: how many words a command is written as: the long form, number 5, has two
 abbrev pub size : Reading → ℕ
@@ -98,6 +119,7 @@ pub record Refused : Type 0 where
 -- Each contract leaves one outcome: any two that it allows are equal.
 pub record One : Type 0 where
   pub check : (s : Setting) (a b : Check) → Checks s a → Checks s b → a ≡ b
+  pub number : (y : Why) (a b : ℕ) → Counts y a → Counts y b → a ≡ b
   pub read : (s : Setting) (w next : ℕ) (a b : Reading) → Reads s w next a → Reads s w next b → a ≡ b
   pub read-at : (s : Setting) (ws : List ℕ) (p : ℕ) (a b : Place) → ReadsAt s ws p a → ReadsAt s ws p b → a ≡ b
   pub write :
@@ -142,9 +164,21 @@ WriteBack =
     → Writes s r out a exit
     → (writtenRefusal a ≡ none) × (exit ≡ sameWords r w next ++ drop (size r) out)
 
--- A reading is told by its number and values: what a promise says of a reading, it says of them.
+-- X6: FORM, number 12, says why, the first that applies to the command; and no other answer says it.
+abbrev pub SaysWhy : Type 0
+SaysWhy =
+    (s : Setting) (r : Reading) (out : List ℕ) (a : Written) (exit : List ℕ)
+    → Writes s r out a exit
+    → (n : ℕ)
+    → writtenWhy a ≡ some n ↔ ((writtenRefusal a ≡ some 12) × FirstIs (whyPlain s (number r)) n)
+
+-- A reading is told by its number, values and why: what a promise says of a reading, it says of them.
 abbrev pub Told : Type 0
-Told = (x y : Reading) → number x ≡ number y → values x ≡ values y → x ≡ y
+Told = (x y : Reading) → number x ≡ number y → values x ≡ values y → why x ≡ why y → x ≡ y
+
+-- W20 to W23: the whys in order, from 1: each has its place for its number.
+abbrev pub Whys : Type 0
+Whys = (y : Why) → getD (none ∷ map some (why.Form ∷ why.Level ∷ why.Mode ∷ why.Sli ∷ [])) (whyNumber y) none ≡ some y
 
 -- W15: how many parameters follow a command's own words: its count, which a run (numbers 1 and 2) has first and a long form (5) last
 -- of its values. No other reading has any.
@@ -162,7 +196,7 @@ pub record AtPlace : Type 0 where
       → placeRefusal a ≡ none
       → p < length ws
       → Reads s (getD ws p 0) (getD ws (p + 1) 0) r
-      → placeValues a ≡ number r ∷ values r
+      → (placeValues a ≡ number r ∷ values r) × (placeWhy a ≡ why r)
   pub past : (s : Setting) (ws : List ℕ) (p : ℕ) (a : Place) → ReadsAt s ws p a → length ws ≤ p → placeValues a ≡ []
 
 -- X4: every number of a reading is within its width.

@@ -1,12 +1,14 @@
 -- What a word reads as.
 use Prim.Native.Nat.{ℕ, _+_, _-_}
 use mathlib.Core.List.{List, [], _∷_, _++_}
+use mathlib.Core.Option.{Option, none, some}
 use lib.Dec.{ltb}
 use lib.ListN.{length, getD}
 use Rattle.word.specs.First.{choose, first}
 use Rattle.word.specs.Setting.{settingCases, sizeCases, refusedOr}
 use Rattle.word.specs.Parts.{numbersIn}
-use Rattle.word.specs.Form.{Form, everythingElse, forms, formOf, usable}
+use Rattle.word.specs.Why.{whyNumber, whyOf}
+use Rattle.word.specs.Form.{Form, everythingElse, forms, formOf, whyNot, usable}
 use Rattle.word.specs.declared.setting.Setting.{Setting}
 use Rattle.word.specs.declared.reading.Reading.{Reading}
 use Rattle.word.specs.declared.reading.Reading.the-variants.{Increasing, NonIncreasing, Sli, Return, Long, OldJump, Jump, Call, Reserved, Refused}
@@ -23,7 +25,7 @@ number (Long s m c) = 5
 number (OldJump t) = 6
 number (Jump t) = 7
 number (Call t) = 8
-number Reserved = 9
+number (Reserved y) = 9
 number (Refused r) = 10
 
 -- a command's form: the row of the table that has its number, from 1; neither 'reserved' nor a refusal has one
@@ -40,8 +42,21 @@ values (Long s m c) = s ∷ m ∷ c ∷ []
 values (OldJump t) = t ∷ []
 values (Jump t) = t ∷ []
 values (Call t) = t ∷ []
-values Reserved = []
+values (Reserved y) = []
 values (Refused r) = r .number ∷ []
+
+-- W24: the number of its why, which 'reserved' alone has
+unfoldable pub why : Reading → Option ℕ
+why (Increasing c s m) = none
+why (NonIncreasing c s m) = none
+why (Sli k) = none
+why Return = none
+why (Long s m c) = none
+why (OldJump t) = none
+why (Jump t) = none
+why (Call t) = none
+why (Reserved y) = some (whyNumber y)
+why (Refused r) = none
 
 -- W15: how many parameters follow a command's own words: its count
 unfoldable pub parameterCount : Reading → ℕ
@@ -53,16 +68,16 @@ parameterCount (Long s m c) = c
 parameterCount (OldJump t) = 0
 parameterCount (Jump t) = 0
 parameterCount (Call t) = 0
-parameterCount Reserved = 0
+parameterCount (Reserved y) = 0
 parameterCount (Refused r) = 0
 
 -- W5: the command of a form that a word holds; `next` is the word after it, which the long form alone looks at
 unfoldable pub commandIn : Form → ℕ → ℕ → Reading
 commandIn f w next = (f .command) (numbersIn (f .word) w ++ numbersIn (f .next) next)
 
--- W12: the command of the form whose bits the word has, where that form may be used; else it is reserved
+-- W12, W24: the command of the form whose bits the word has, where that form may be used; else it is reserved, and says why
 unfoldable pub readingOf : Setting → ℕ → ℕ → Reading
-readingOf s w next = choose (usable s (formOf w)) (commandIn (formOf w) w next) Reserved
+readingOf s w next = choose (usable s (formOf w)) (commandIn (formOf w) w next) (Reserved (whyOf (whyNot s (formOf w))))
 
 -- W13, R22: a word by itself, at any setting
 unfoldable pub readOf : Setting → ℕ → ℕ → Reading

@@ -4,6 +4,7 @@ mod lent;
 mod reading;
 mod setting;
 mod special;
+mod why;
 mod writing;
 
 pub use lent::word_at;
@@ -18,5 +19,6 @@ pub use setting::Mode;
 pub use setting::Refusal;
 pub use setting::Setting;
 pub use special::present;
+pub use why::Why;
 pub use writing::Written;
 pub use writing::write;

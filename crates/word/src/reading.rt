@@ -1,17 +1,23 @@
 // What a command word reads as.
 ghost use mathlib.Core.Path.{_≡_};
+ghost use mathlib.Core.Bool.{false};
 ghost use Prim.Native.Nat.{ℕ, _+_, _<_};
+ghost use lib.Dec.{ltb};
 ghost use lib.ListN.{getD};
+ghost use Rattle.word.specs.First.{choose};
 ghost use Rattle.word.specs.Parts.{bits};
-ghost use Rattle.word.specs.Form.{formOf, usable};
+ghost use Rattle.word.specs.Why.{whyOf};
+ghost use Rattle.word.specs.Form.{formOf, whyNot, usable};
 ghost use Rattle.word.specs.Reading.{form, commandIn, readingOf};
 ghost use Rattle.word.specs.Contracts.{Reads, ReadsAt};
+ghost use Rattle.word.specs.declared.why.Why.the-variants as why;
 use crate::setting::Check;
 use crate::setting::Level;
 use crate::setting::MOST_WORDS;
 use crate::setting::Mode;
 use crate::setting::Refusal;
 use crate::setting::Setting;
+use crate::why::Why;
 
 // A command, with its numbers in the order in which its words hold them. Methods and targets are
 // byte numbers, multiples of 4.
@@ -44,7 +50,9 @@ pub enum Reading {
     Call {
         target: u32,
     },
-    Reserved,
+    Reserved {
+        why: Why,
+    },
     Refused {
         refusal: Refusal,
     },
@@ -104,7 +112,9 @@ fn read_checked(setting: Setting, word: u32, next: u32) -> Reading
     if available(setting, command) {
         command
     } else {
-        Reading::Reserved
+        Reading::Reserved {
+            why: why_not(setting, command),
+        }
     }
 }
 
@@ -127,7 +137,7 @@ fn command(word: u32, next: u32) -> Reading
             target: word & 0xffff_fffc,
         };
     }
-    Reading::Reserved
+    Reading::Reserved { why: Why::Form }
 }
 
 // The same where bits 1-0 are 00.
@@ -172,7 +182,7 @@ fn run(word: u32) -> Reading
             method,
         };
     }
-    Reading::Reserved
+    Reading::Reserved { why: Why::Form }
 }
 
 // A word with other bits 17-16 that is no old jump: the forms that are told by their upper half.
@@ -187,7 +197,7 @@ fn by_upper_half(word: u32, next: u32) -> Reading
                 mask: (word >> 4) & 0xfff,
             };
         }
-        return Reading::Reserved;
+        return Reading::Reserved { why: Why::Form };
     }
     if upper == 3 {
         return Reading::Long {
@@ -199,7 +209,7 @@ fn by_upper_half(word: u32, next: u32) -> Reading
     if word == 0x0002_0000 {
         return Reading::Return;
     }
-    Reading::Reserved
+    Reading::Reserved { why: Why::Form }
 }
 
 // Whether a command may be used at a setting.
@@ -218,7 +228,38 @@ pub(crate) fn available(setting: Setting, command: Reading) -> bool
         Reading::OldJump { .. } => nv04_style,
         Reading::Jump { .. } => nv04_style && Level::NV11.number <= level,
         Reading::Call { .. } => nv04_style && Level::NV11.number <= level,
-        Reading::Reserved => false,
+        Reading::Reserved { .. } => false,
         Reading::Refused { .. } => false,
     }
+}
+
+// Why a command may not be used at a setting where it may not: the first of the whys that applies. An
+// increasing run may be used at every setting, and is never asked about.
+pub(crate) fn why_not(setting: Setting, command: Reading) -> Why
+    requires { ⌜ usable setting (form command) ≡ false ⌝ }
+    ensures { λ r. ⌜ r ≡ whyOf (whyNot setting (form command)) ⌝ }
+{
+    let level = setting.level;
+    match command {
+        Reading::Increasing { .. } => Why::Form,
+        Reading::NonIncreasing { .. } => Why::Level,
+        Reading::Sli { .. } => level_or(level, Level::NV40, Why::Sli),
+        Reading::Return => level_or(level, Level::NV11, Why::Mode),
+        Reading::Long { .. } => Why::Mode,
+        Reading::OldJump { .. } => Why::Mode,
+        Reading::Jump { .. } => level_or(level, Level::NV11, Why::Mode),
+        Reading::Call { .. } => level_or(level, Level::NV11, Why::Mode),
+        Reading::Reserved { .. } => Why::Form,
+        Reading::Refused { .. } => Why::Form,
+    }
+}
+
+// LEVEL, of a form that is used from `first` up, or else another why, which comes behind it.
+fn level_or(level: Level, first: Level, other: Why) -> Why
+    ensures { λ r. ⌜ r ≡ choose (ltb (level .number) (first .number)) why.Level other ⌝ }
+{
+    if level.number < first.number {
+        return Why::Level;
+    }
+    other
 }

@@ -9,14 +9,18 @@ ghost use Rattle.word.specs.Parts.{numbersFit, wordWith};
 ghost use Rattle.word.specs.Contracts.{Writes};
 use crate::reading::Reading;
 use crate::reading::available;
+use crate::reading::why_not;
 use crate::setting::Check;
 use crate::setting::Refusal;
 use crate::setting::Setting;
+use crate::why::Why;
 
-// What the writer answers: how many words it wrote, or why it wrote none.
+// What the writer answers: how many words it wrote, or why it wrote none. The refusal FORM has a case of
+// its own, which says why the command may not be used.
 pub enum Written {
     Words { count: usize },
     Refused { refusal: Refusal },
+    Form { why: Why },
 }
 
 // Writes the words that are a command's own, of a long form two, at the front of the output, or
@@ -34,8 +38,8 @@ pub fn write(setting: Setting, command: Reading, out: &mut [u32]) -> Written
         };
     }
     if !available(setting, command) {
-        return Written::Refused {
-            refusal: Refusal::FORM,
+        return Written::Form {
+            why: why_not(setting, command),
         };
     }
     let Reading::Long {
@@ -87,7 +91,7 @@ fn fields_fit(command: Reading) -> bool
         Reading::OldJump { target } => target < 0x2000_0000 && target % 4 == 0,
         Reading::Jump { target } => target % 4 == 0,
         Reading::Call { target } => target % 4 == 0,
-        Reading::Reserved => true,
+        Reading::Reserved { .. } => true,
         Reading::Refused { .. } => true,
     }
 }
@@ -131,7 +135,7 @@ fn first_word(command: Reading) -> u32
         Reading::OldJump { target } => target | 0x2000_0000,
         Reading::Jump { target } => target | 1,
         Reading::Call { target } => target | 2,
-        Reading::Reserved => 0,
+        Reading::Reserved { .. } => 0,
         Reading::Refused { .. } => 0,
     }
 }

@@ -4,6 +4,7 @@ use word::Level;
 use word::MOST_WORDS;
 use word::Mode;
 use word::Refusal;
+use word::Why;
 
 pub(crate) fn constants() {
     expect(Level::NV04.number == 0);
@@ -27,5 +28,9 @@ pub(crate) fn constants() {
     expect(Refusal::ROOM.number == 11);
     expect(Refusal::FORM.number == 12);
     expect(Refusal::STATE.number == 13);
+    expect(Why::FORM == 1);
+    expect(Why::LEVEL == 2);
+    expect(Why::MODE == 3);
+    expect(Why::SLI == 4);
     expect(MOST_WORDS == 1_048_576);
 }

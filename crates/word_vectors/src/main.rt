@@ -7,6 +7,7 @@ mod question;
 
 use libc::STDOUT_FILENO;
 use question::Kind;
+use question::RECORD_WORDS;
 use question::Record;
 
 // More records than a file of vectors has: the run ends with the input.
@@ -21,7 +22,7 @@ struct Tally {
     unknown: u32,
     wrong: u32,
     first: u32,
-    words: [u32; 14],
+    words: [u32; RECORD_WORDS],
 }
 
 fn main() {
@@ -41,8 +42,8 @@ fn main() {
 }
 
 // The words of a record, a line each.
-fn show(words: [u32; 14]) {
-    for i in 0..14 {
+fn show(words: [u32; RECORD_WORDS]) {
+    for i in 0..RECORD_WORDS {
         show_word(words[i]);
     }
 }
@@ -72,7 +73,7 @@ fn run(space: &mut [u32]) -> Tally {
         unknown: 0,
         wrong: 0,
         first: 0,
-        words: [0; 14],
+        words: [0; RECORD_WORDS],
     };
     for n in 0..MOST_RECORDS {
         let record = question::next_record();
@@ -114,7 +115,7 @@ fn counted(tally: Tally, kind: Kind) -> Tally {
 }
 
 // One more wrong answer, at the record `n`.
-fn missed(tally: Tally, n: u32, words: [u32; 14]) -> Tally {
+fn missed(tally: Tally, n: u32, words: [u32; RECORD_WORDS]) -> Tally {
     let mut next = tally;
     if tally.wrong == 0 {
         next.first = more(n);

@@ -2,6 +2,11 @@
 ghost use Prim.Native.Nat.{_<_};
 use libc::STDIN_FILENO;
 
+// The most words of a record, behind its kind.
+pub(crate) const RECORD_WORDS: usize = 16;
+
+const RECORD_BYTES: usize = 64;
+
 pub enum Kind {
     Read,
     ReadAt,
@@ -13,20 +18,20 @@ pub enum Kind {
 
 pub struct Record {
     pub kind: Kind,
-    pub words: [u32; 14],
+    pub words: [u32; RECORD_WORDS],
 }
 
 // The next record; `End` where the input ends, also in the middle of a record.
 pub(crate) fn next_record() -> Record {
     let kind = next_kind();
     let count = word_count(kind);
-    let mut bytes = [0u8; 56];
+    let mut bytes = [0u8; RECORD_BYTES];
     let wanted = 4 * count;
     let got = io::read_full(STDIN_FILENO, &mut bytes[..wanted]);
     if got < wanted {
         return Record {
             kind: Kind::End,
-            words: [0u32; 14],
+            words: [0u32; RECORD_WORDS],
         };
     }
     Record {
@@ -52,19 +57,19 @@ fn next_kind() -> Kind {
 
 // How many words follow a record's kind.
 fn word_count(kind: Kind) -> usize
-    ensures { λ r. ⌜ r < 15 ⌝ }
+    ensures { λ r. ⌜ r < 17 ⌝ }
 {
     match kind {
-        Kind::Read => 9,
-        Kind::ReadAt => 14,
-        Kind::Write => 14,
+        Kind::Read => 10,
+        Kind::ReadAt => 15,
+        Kind::Write => 16,
         Kind::Present => 3,
         Kind::Unknown => 0,
         Kind::End => 0,
     }
 }
 
-fn words_of(bytes: [u8; 56]) -> [u32; 14] {
+fn words_of(bytes: [u8; RECORD_BYTES]) -> [u32; RECORD_WORDS] {
     [
         word_at(bytes, 0),
         word_at(bytes, 1),
@@ -80,11 +85,13 @@ fn words_of(bytes: [u8; 56]) -> [u32; 14] {
         word_at(bytes, 11),
         word_at(bytes, 12),
         word_at(bytes, 13),
+        word_at(bytes, 14),
+        word_at(bytes, 15),
     ]
 }
 
-fn word_at(bytes: [u8; 56], i: usize) -> u32 {
-    if 14 <= i {
+fn word_at(bytes: [u8; RECORD_BYTES], i: usize) -> u32 {
+    if RECORD_WORDS <= i {
         return 0;
     }
     let at = 4 * i;

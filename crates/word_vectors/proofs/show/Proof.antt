@@ -4,10 +4,10 @@ use Rattle.word_vectors.proofs.show.Statement.{statement}
 use Rattle.word_vectors.proofs.show.Tie as tie
 
 abbrev Inv-loop : tie.InvT-loop
-Inv-loop words i₀ i = i ≤ 14
+Inv-loop words i₀ i = i ≤ 16
 
 abbrev μ-loop : tie.MeasureT-loop
-μ-loop words i₀ i = 14 - i
+μ-loop words i₀ i = 16 - i
 
 pub show-spec : {M : Type 1} → statement M
 show-spec =

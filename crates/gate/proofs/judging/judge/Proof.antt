@@ -51,8 +51,10 @@ judge-spec =
     c .refused3 .ensures
     ∙ judge-by-length _ _ _ _ _ _ (fine (small .before)) (small .if1 .left) (sym (c .before .before .no-such-lengths .ensures) ∙ c .before .if2 .taken))
     (λ c κs. let h = sound c in (words-many _ (h .0), omega arith))
-    (λ c κs. sound (c .before) .1)
+    (λ c κs. search needs)
+    (λ c κs. sound (c .before .before) .1)
     (λ c.
-    let past = c .before .before in
+    let past = c .before .before .before in
     let small = past .before .before in
-    rw (c .before .whole-verdict .ensures, c .set-bits .ensures) (judge-made _ _ _ _ _ _ (fine (small .before)) (small .if1 .left) (tested past))))
+    let list = past .before .before .before .before .before .before .before .before .before .args .permit .now in
+    rw (c .before .with-why .ensures list, c .before .before .whole-verdict .ensures, c .set-bits .ensures) (judge-made _ _ _ _ _ _ (fine (small .before)) (small .if1 .left) (tested past))))

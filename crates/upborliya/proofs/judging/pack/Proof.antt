@@ -2,7 +2,7 @@ use native.Mathlib.Omega.{arith}
 use borrow.Author.Needs.{needs}
 use lib.Bits.{and-le-r}
 use Rattle.upborliya.specs.Packed.{packed}
-use Rattle.upborliya.proofs.FourParts.{four-parts}
+use Rattle.upborliya.proofs.FiveParts.{five-parts}
 use Rattle.upborliya.proofs.judging.pack.Statement.{statement}
 use Rattle.upborliya.proofs.judging.pack.Tie as tie
 
@@ -18,7 +18,11 @@ pack-spec =
     (λ c. search needs)
     (λ c κs. search needs)
     (λ c. search needs)
+    (λ c κs. search needs)
+    (λ c. search needs)
     (λ c.
-    let place = c .before .before in
-    rw (← place .place-in .ensures, ← c .before .refusal-in .ensures, ← c .reason-in .ensures)
-    (four-parts (place .place-in .result) (place .before .before .args .judgement .count) (c .before .refusal-in .result) (c .reason-in .result) (omega arith) (omega arith))))
+    let refusal = c .before in
+    let why = refusal .before in
+    let place = why .before in
+    rw (← place .place-in .ensures, ← why .why-in .ensures, ← refusal .refusal-in .ensures, ← c .reason-in .ensures)
+    (five-parts (place .place-in .result) (place .before .before .args .judgement .count) (why .why-in .result) (refusal .refusal-in .result) (c .reason-in .result) (omega arith) (omega arith) (omega arith))))

@@ -1,12 +1,13 @@
 use Prim.Native.Nat.{ℕ}
 use mathlib.Core.Path.{_≡_, refl, sym, ap, _∙_}
-use mathlib.Core.Bool.{true}
+use mathlib.Core.Bool.{true, false}
 use mathlib.Core.List.{List, [], _∷_, _++_}
 use lib.ListN.{length}
 use lib.Seq.{sets}
 use borrow.Author.Needs.{needs}
 use borrow.Author.Tests.{not-true, not-false}
 use Rattle.word.specs.Setting.{checkOf}
+use Rattle.word.specs.Form.{usable}
 use Rattle.word.specs.Reading.{form, values}
 use Rattle.word.specs.Parts.{numbersFit}
 use Rattle.word.specs.Writing.{ownWords, writeOf, outAfter}
@@ -14,6 +15,7 @@ use Rattle.word.specs.Contracts.{Writes}
 use Rattle.word.specs.declared.setting.Refusal.{Refusal}
 use Rattle.word.specs.declared.setting.Setting.{Setting}
 use Rattle.word.specs.declared.setting.Check.the-variants as check
+use Rattle.word.specs.declared.why.Why.{Why}
 use Rattle.word.specs.declared.reading.Reading.{Reading}
 use Rattle.word.specs.declared.writing.Written.the-variants as written
 use Rattle.word.proofs.Writer.{Past, one-word, two-words, by-setting, by-field, by-form, by-room, by-words}
@@ -26,6 +28,9 @@ fine c = sym (c .before .before .check .ensures) ∙ c .enum-told .given .1
 
 fields : (c : tie.Else1) → let r = c .before .before .before .before .before .before .args .command in numbersFit (form r .word ++ form r .next) (values r) ≡ true
 fields c = sym (c .before .fields-fit .ensures) ∙ not-false _ (c .if1 .left)
+
+barred : (c : tie.Then2) → let a = c .before .before .before .before .before .before .before .before .args in usable (a .setting) (form (a .command)) ≡ false
+barred c = sym (c .before .available .ensures) ∙ not-true _ (c .if2 .taken)
 
 past : (c : tie.Else2) → let a = c .before .before .before .before .before .before .before .before .args in Past (a .setting) (a .command)
 past c =
@@ -40,6 +45,10 @@ module _ (s : Setting) (r : Reading) (out : List ℕ) where
   refused : (x : Refusal) → writeOf s r (length out) ≡ written.Refused x → Writes s r out (written.Refused x) out
   unfolding outAfter
   refused x e = record { answer = sym e; memory = refl }
+
+  unusable : {y : Why} → writeOf s r (length out) ≡ written.Form y → Writes s r out (written.Form y) out
+  unfolding outAfter
+  unusable e = record { answer = sym e; memory = refl }
 
   wrote : {k : ℕ} {ws : List ℕ} → ownWords r ≡ ws → writeOf s r (length out) ≡ written.Words k → Writes s r out (written.Words k) (sets out 0 ws)
   unfolding outAfter
@@ -56,9 +65,10 @@ write-spec =
     (λ c κs. search needs)
     (λ c. refused _ _ _ _ (by-field _ _ _ (fine (c .before .before)) (sym (c .before .fields-fit .ensures) ∙ not-true _ (c .if1 .taken))))
     (λ c κs. search needs)
+    (λ c κs. barred c)
     (λ c.
-    refused _ _ _ _
-    (by-form _ _ _ (fine (c .before .before .before .before)) (fields (c .before .before)) (sym (c .before .available .ensures) ∙ not-true _ (c .if2 .taken))))
+    unusable _ _ _
+    (by-form _ _ _ (fine (c .before .before .before .before .before)) (fields (c .before .before .before)) (barred (c .before)) ∙ ap written.Form (sym (c .why-not .ensures))))
     (λ c. search needs)
     (λ c. refused _ _ _ _ (by-room _ _ _ (past (c .before .before)) (one-word _ (c .before .match2 .keys2)) (c .if3 .taken)))
     (λ c κs. past (c .before .before) .fields)
