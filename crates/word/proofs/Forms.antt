@@ -4,7 +4,7 @@ use mathlib.Core.Path.{_≡_, refl, sym, ap, subst, _∙_}
 use mathlib.Core.Bool.{true}
 use mathlib.Core.List.{List, [], _∷_}
 use mathlib.Core.Logic.{_↔_}
-use mathlib.Core.Option.{Option, none, some}
+use mathlib.Core.Option.{Option, none, some, Option·none-ne-some}
 use native.Mathlib.Omega.{arith}
 use lib.Dec.{eqb}
 use lib.ListN.{getD}
@@ -20,7 +20,7 @@ use Rattle.word.specs.declared.reading.Reading.{Reading}
 use Rattle.word.specs.declared.reading.Reading.the-variants.{Refused}
 use Rattle.word.proofs.Alike.{Has, Same, AllSame, all-same}
 use Rattle.word.proofs.First.{by-test}
-use Rattle.word.proofs.Told.{no-why-of}
+use Rattle.word.proofs.Told.{no-why-of, why-back}
 use Rattle.word.proofs.Tests.{and-plain, equal-plain}
 use Rattle.word.proofs.Table.{In, here, there, the-form, by-form}
 use Rattle.word.proofs.Usable.{no-why, why-number}
@@ -178,7 +178,7 @@ forms =
           subst (λ (y : Reading). Each (λ x. x .bits → (n : ℕ) → why y ≡ some n ↔ FirstIs (whyPlain s (x .number)) n) (rows s w next)) (sym (accepted s w next r e k))
           (by-row s w next (λ x. x .bits → (n : ℕ) → why (readingOf s w next) ≡ some n ↔ FirstIs (whyPlain s (x .number)) n) (row-why s w next));
       formless = λ s w next r e k none. ap why (accepted s w next r e k) ∙ formless-why s w next none;
-      unreserved = λ s w next r e k. no-why-of r k;
+      unreserved = λ s w next r e. (λ none-there nine. Option·none-ne-some _ (sym none-there ∙ sym (why-back r nine)), no-why-of r);
       refused = λ s w next r e. rw e (refusing s w next, refusal s w next);
     }
 

@@ -116,8 +116,8 @@ pub record Forms : Type 0 where
       → (SomeHolds (settingPlain s) → ⊥)
       → Each (λ x. x .bits → ⊥) (rows s w next)
       → why r ≡ some 1
-  -- W24: no other reading has a why
-  pub unreserved : (s : Setting) (w next : ℕ) (r : Reading) → Reads s w next r → (number r ≡ 9 → ⊥) → why r ≡ none
+  -- W24: it always has one, and no other reading has
+  pub unreserved : (s : Setting) (w next : ℕ) (r : Reading) → Reads s w next r → why r ≡ none ↔ (number r ≡ 9 → ⊥)
   -- W13: number 10 exactly at a setting that is refused, with the refusal's number
   pub refused :
       (s : Setting) (w next : ℕ) (r : Reading)
