@@ -352,7 +352,7 @@ pub data LeadsTo (ws : List ℕ) (c : Channel) : Channel → List ℕ → Type 0
       → e ≡ r .channel
       → LeadsTo ws c e exit
 
--- T1 to T10: all of it together
+-- T1 to T11: all of it together
 pub record Printed : Type 0 where
   -- from its beginning, over the words that the bytes are and 1,024 zero semaphore words, in at most 65,537 lines (T6)
   pub lines :
