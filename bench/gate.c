@@ -227,8 +227,8 @@ static struct judgement archive_judge(const struct submission *s)
     upborliya_answer answer = upborliya_judge(s->level, s->sli, s->words, s->words_length, s->map,
                                               s->map_length, s->permit, s->permit_length);
 
-    return (struct judgement){upborliya_reason(answer), upborliya_refusal(answer), upborliya_why(answer),
-                              upborliya_count(answer), upborliya_place(answer)};
+    return (struct judgement){upborliya_reason(answer), upborliya_refusal(answer),
+                              upborliya_reserved_why(answer), upborliya_count(answer), upborliya_place(answer)};
 }
 
 typedef struct judgement judge_function(const struct submission *submission);

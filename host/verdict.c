@@ -145,7 +145,7 @@ static bool is_why(const struct submission *submission, upborliya_answer answer)
 
     return is_reading_at(submission, upborliya_place(answer)) &&
            upborliya_form(reading) == UPBORLIYA_FORM_RESERVED &&
-           upborliya_reading_why(reading) == upborliya_why(answer);
+           upborliya_reading_why(reading) == upborliya_reserved_why(answer);
 }
 
 bool is_verdict(const struct submission *submission, upborliya_answer answer)
@@ -153,7 +153,7 @@ bool is_verdict(const struct submission *submission, upborliya_answer answer)
     unsigned refusal = upborliya_refusal(answer);
     unsigned reason = upborliya_reason(answer);
 
-    if (reason != UPBORLIYA_REASON_RESERVED && upborliya_why(answer) != UPBORLIYA_WHY_NONE)
+    if (reason != UPBORLIYA_REASON_RESERVED && upborliya_reserved_why(answer) != UPBORLIYA_WHY_NONE)
         return false;
     if (refusal != UPBORLIYA_REFUSAL_NONE)
         return reason == UPBORLIYA_REASON_NONE && is_refusal(refusal);

@@ -81,7 +81,7 @@ static inline unsigned upborliya_refusal(upborliya_answer answer)
     return (unsigned)(answer >> 8 & 0xff);
 }
 
-static inline unsigned upborliya_why(upborliya_answer answer)
+static inline unsigned upborliya_reserved_why(upborliya_answer answer)
 {
     return (unsigned)(answer >> 16 & 0xff);
 }

@@ -109,8 +109,8 @@ static void make_rooms(void)
 /* G32: the parts of the answer, by the header's functions: between them they have all of its bits. */
 static struct judgement unpack(upborliya_answer answer)
 {
-    return (struct judgement){upborliya_reason(answer), upborliya_refusal(answer), upborliya_why(answer),
-                              upborliya_count(answer), upborliya_place(answer)};
+    return (struct judgement){upborliya_reason(answer), upborliya_refusal(answer),
+                              upborliya_reserved_why(answer), upborliya_count(answer), upborliya_place(answer)};
 }
 
 /* G32: the whole number by the rule's bits, without the header. */

@@ -218,7 +218,8 @@ static void compare_parts(void)
     uint32_t place = 0;
 
     if (upborliya_refusal(archive.answer) != model.outcome.refusal ||
-        upborliya_count(archive.answer) != model.outcome.count || upborliya_why(archive.answer) != WHY_NONE)
+        upborliya_count(archive.answer) != model.outcome.count ||
+        upborliya_reserved_why(archive.answer) != WHY_NONE)
         fail("the header takes the answer apart");
     for (uint32_t i = 0; i < model.outcome.count; i++, place++) {
         while (given.map[place] == model.map[place])
