@@ -11,7 +11,7 @@ use pusher::Setup;
 use word::{Check, Level, Mode, Refusal, Setting};
 
 // What opening answers: open, or why not; of a handle that stands twice, the lowest entry that has it again.
-#[derive(Drop)]
+#[derive(Clone, Copy)]
 pub enum Opening {
     Open,
     Refused { refusal: Refusal },
@@ -19,7 +19,7 @@ pub enum Opening {
 }
 
 // The fresh channel, or the blank one where opening is refused.
-#[derive(Drop)]
+#[derive(Clone, Copy)]
 pub struct Opened {
     pub answer: Opening,
     pub channel: Channel,

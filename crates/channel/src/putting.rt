@@ -8,7 +8,7 @@ use crate::record::Channel;
 use word::{Check, Mode, Refusal};
 
 // The channel with its new put, or unchanged where that is refused.
-#[derive(Drop)]
+#[derive(Clone, Copy)]
 pub struct Put {
     pub answer: Check,
     pub channel: Channel,

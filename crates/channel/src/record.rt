@@ -8,7 +8,7 @@ use puller::{Acquire, AcquireMode, LongSemaphore, Puller, PullerError, Semaphore
 use pusher::{Ib, Main, Pusher, PusherError, Run, Setup, Sli, Subroutine};
 use word::{Check, Mode};
 
-#[derive(Drop)]
+#[derive(Clone, Copy)]
 pub struct Channel {
     pub setup: Setup,
     pub pusher: Pusher,

@@ -14,21 +14,21 @@ use pusher::{Did, Pushed, Pusher, Setup, push};
 use word::{Level, MOST_WORDS, Refusal};
 
 // What a step answers.
-#[derive(Drop)]
+#[derive(Clone, Copy)]
 pub enum Answer {
     Event { event: Event },
     Refused { refusal: Refusal },
 }
 
 // The channel after the step, or unchanged where that is refused.
-#[derive(Drop)]
+#[derive(Clone, Copy)]
 pub struct Stepped {
     pub answer: Answer,
     pub channel: Channel,
 }
 
 // What a step says, and the halves after it.
-#[derive(Drop)]
+#[derive(Clone, Copy)]
 struct Acted {
     event: Event,
     pusher: Pusher,

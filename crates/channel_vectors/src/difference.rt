@@ -14,7 +14,7 @@ pub const SEMAPHORE: u32 = 3;
 // A kind of record or operation that the format does not have.
 pub const FORM: u32 = 4;
 
-#[derive(Drop)]
+#[derive(Clone, Copy)]
 pub struct Difference {
     pub part: u32,
     pub place: u32,

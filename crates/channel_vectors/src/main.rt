@@ -1,6 +1,8 @@
 // Runs the openings, runs of steps, single steps and puts that the model made: each record on standard
 // input is a question and the model's answer, in little-endian words. Prints how many there were of
 // each kind and how many answers differ, and of the first that does its place and what differs.
+#![tactic(auto)]
+
 mod answer;
 mod constant;
 mod difference;
@@ -30,7 +32,7 @@ const MOST_RECORDS: u32 = 1_000_000;
 
 // How many records there were, of each kind too, and how many steps the runs had; the first record that
 // was wrong, counted from 1, with its operation and what differs there.
-#[derive(Drop)]
+#[derive(Clone, Copy)]
 struct Tally {
     over: bool,
     records: u32,

@@ -14,7 +14,7 @@ pub const STORE: u32 = 2;
 pub const STEP: u32 = 3;
 
 // The channel after an operation, whether it was a step, and where library and model part.
-#[derive(Drop)]
+#[derive(Clone, Copy)]
 pub struct Done {
     pub pair: Pair,
     pub steps: u32,

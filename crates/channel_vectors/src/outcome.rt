@@ -7,14 +7,14 @@ use crate::pool::{Lent, within};
 use crate::state::{channel_of, words_of};
 use channel::{Channel, Opened, Put, Stepped};
 
-#[derive(Drop)]
+#[derive(Clone, Copy)]
 pub struct Outcome {
     pub answer: [u32; 6],
     pub channel: [u32; CHANNEL_WORDS],
 }
 
 // What a channel is opened with, apart from its table.
-#[derive(Drop)]
+#[derive(Clone, Copy)]
 pub struct Asked {
     pub level: u32,
     pub mode: u32,

@@ -5,7 +5,7 @@ use crate::input::next_word;
 use crate::layout::CHANNEL_WORDS;
 use crate::pool::{MOST_GIVEN, at};
 
-#[derive(Drop)]
+#[derive(Clone, Copy)]
 pub struct Pair {
     pub got: [u32; CHANNEL_WORDS],
     pub wanted: [u32; CHANNEL_WORDS],

@@ -16,7 +16,7 @@ const TABLE_WORD: u32 = 0x8000_0000;
 pub const TABLE_WORDS: usize = 4104;
 
 // How much of each pool is lent to a step, and the clock.
-#[derive(Drop)]
+#[derive(Clone, Copy)]
 pub struct Lent {
     pub words: usize,
     pub entries: usize,
@@ -26,7 +26,7 @@ pub struct Lent {
 }
 
 // What a record gives: how many words of the table, and its entries.
-#[derive(Drop)]
+#[derive(Clone, Copy)]
 pub struct Given {
     pub table: usize,
     pub entries: [u64; MOST_ENTRIES],

@@ -12,7 +12,7 @@ use crate::verdict::{Verdict, added, alone};
 const MOST_OPERATIONS: usize = 4096;
 
 // A run so far.
-#[derive(Drop)]
+#[derive(Clone, Copy)]
 struct Progress {
     pair: Pair,
     verdict: Verdict,

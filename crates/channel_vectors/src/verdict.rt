@@ -3,7 +3,7 @@ use crate::difference::{Difference, NOTHING};
 
 // How many steps a run had; and where library and model part first, with the operation of the run,
 // counted from 1, at which they do.
-#[derive(Drop)]
+#[derive(Clone, Copy)]
 pub struct Verdict {
     pub steps: u32,
     pub operation: u32,

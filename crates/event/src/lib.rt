@@ -1,9 +1,11 @@
 // What a step of the channel, or either half of it, can say: the kinds, and the method that
 // an event is about.
+#![tactic(auto)]
+
 ghost use Rattle.event.specs.Outcomes.{Numbers};
 
 // The kinds, in the order of their numbers.
-#[derive(Drop)]
+#[derive(Clone, Copy)]
 pub enum Kind {
     Command,
     Count,
@@ -50,7 +52,7 @@ impl Kind {
 }
 
 // A method as the pusher submits it and the puller takes it; `method` is its byte number.
-#[derive(Drop)]
+#[derive(Clone, Copy)]
 pub struct Method {
     pub subchannel: u32,
     pub method: u32,
@@ -58,7 +60,7 @@ pub struct Method {
 }
 
 // A kind, and for methods taken or discarded the method.
-#[derive(Drop)]
+#[derive(Clone, Copy)]
 pub enum Event {
     Plain { kind: Kind },
     Of { kind: Kind, method: Method },

@@ -1,5 +1,7 @@
 // The gatekeeper: judges words, with a map of their command starts that nobody trusts, against a list of
 // permitted methods.
+#![tactic(auto)]
+
 mod judging;
 mod map;
 mod next;

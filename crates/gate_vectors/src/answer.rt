@@ -5,7 +5,7 @@ use crate::question::Question;
 use gate::{Judgement, Verdict};
 
 // What an answer lacks is 0.
-#[derive(Drop)]
+#[derive(Clone, Copy)]
 pub struct Answer {
     pub reason: u32,
     pub refusal: u32,

@@ -1,6 +1,8 @@
 // Runs the judgements, repairs, searches and readings that the model made: each record on standard input is a question and the model's
 // answer, in little-endian words. Prints how many there were of each kind and how many answers differ,
 // and of the first that does its place, what was wanted and what was got.
+#![tactic(auto)]
+
 mod answer;
 mod constant;
 mod content;
@@ -20,7 +22,7 @@ const MOST_RECORDS: u32 = 1_000_000;
 
 // How many records there were, of each kind too; and the first that was wrong, counted from 1, with
 // what was wanted and what was got.
-#[derive(Drop)]
+#[derive(Clone, Copy)]
 struct Tally {
     over: bool,
     records: u32,
@@ -116,7 +118,7 @@ fn run(
 
 // A record with the model's answer and the library's: its kind, 0 where the input or what can be understood
 // of it is over.
-#[derive(Drop)]
+#[derive(Clone, Copy)]
 struct Record {
     kind: u32,
     wanted: Answer,

@@ -17,7 +17,7 @@ pub const MOST_WORK: usize = 16_400;
 
 // What is asked of the repair: beside the question, how many bytes of the list of permitted methods a
 // record gives with their places, and how many entries it lends as rooms.
-#[derive(Drop)]
+#[derive(Clone, Copy)]
 pub struct Asked {
     pub question: Question,
     pub listed: u32,
@@ -26,7 +26,7 @@ pub struct Asked {
 }
 
 // What is asked of the search; lengths in bytes, of the room in entries.
-#[derive(Drop)]
+#[derive(Clone, Copy)]
 pub struct Sought {
     pub level: u32,
     pub mode: u32,
@@ -39,7 +39,7 @@ pub struct Sought {
 }
 
 // Lengths are in bytes. The list of permitted methods has `fill` where a record gives no other byte.
-#[derive(Drop)]
+#[derive(Clone, Copy)]
 pub struct Question {
     pub level: u32,
     pub sli: u32,

@@ -6,7 +6,7 @@ ghost use Rattle.listing.specs.Outcomes.{ListsAt};
 use word::{Place, Reading, Refusal, Setting, Why, read_at};
 
 // A command, or an end and which (K3), at a reserved word with its why; or why nothing is listed.
-#[derive(Drop)]
+#[derive(Clone, Copy)]
 pub enum Item {
     Command { reading: Reading },
     Past,
@@ -16,7 +16,7 @@ pub enum Item {
 }
 
 // An item, and the place where the listing goes on: at an end it stays.
-#[derive(Drop)]
+#[derive(Clone, Copy)]
 pub struct Listed {
     pub item: Item,
     pub place: usize,

@@ -1,4 +1,6 @@
 // The listing of lent words: the commands in turn, by the reading of one word. Jumps are not followed.
+#![tactic(auto)]
+
 mod command;
 mod listing;
 

@@ -4,7 +4,7 @@ ghost use Rattle.listing.specs.Outcomes.{Begins, Gives};
 use crate::command::{Item, list_at};
 use word::Setting;
 
-#[derive(Drop)]
+#[derive(Clone, Copy)]
 pub struct Listing<'a> {
     pub words: &'a [u32],
     pub place: usize,

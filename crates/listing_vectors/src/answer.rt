@@ -5,7 +5,7 @@ use listing::{Item, Listed};
 use word::{Reading, Refusal, Setting, Why};
 
 // An item's number, a reading's with its values, a why, and the place after it. What an answer lacks is 0.
-#[derive(Drop)]
+#[derive(Clone, Copy)]
 pub struct Answer {
     pub item: u32,
     pub reading: u32,

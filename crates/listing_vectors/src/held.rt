@@ -6,7 +6,7 @@ use word::Setting;
 
 // How many were asked for, up to the first that was wrong, and the place to go on from; and that answer,
 // with what was wanted.
-#[derive(Drop)]
+#[derive(Clone, Copy)]
 pub struct Held {
     pub right: bool,
     pub asked: u32,

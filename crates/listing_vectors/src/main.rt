@@ -1,6 +1,8 @@
 // Runs the listings that the model made: each record on standard input is a question and the model's
 // answers, in little-endian words. Prints how many there were of each kind and how many have a wrong
 // answer, and of the first that does its place, which answer, what was wanted and what was got.
+#![tactic(auto)]
+
 mod answer;
 mod held;
 mod input;
@@ -18,7 +20,7 @@ const MOST_RECORDS: u32 = 1_000_000;
 
 // How many records there were, of each kind too; and the first that was wrong, counted from 1, with
 // which of its answers, what was wanted and what was got.
-#[derive(Drop)]
+#[derive(Clone, Copy)]
 struct Tally {
     over: bool,
     records: u32,

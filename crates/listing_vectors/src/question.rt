@@ -7,7 +7,7 @@ use word::{Level, Mode, Setting};
 pub const LARGE_WORDS: usize = 1_048_580;
 
 // The place is the first that is asked about.
-#[derive(Drop)]
+#[derive(Clone, Copy)]
 pub struct Question {
     pub setting: Setting,
     pub place: u32,

@@ -1,1 +1,3 @@
 // The three demands, gathered: no code, but the statements in specs/Demands.antt and their proof.
+#![tactic(auto)]
+

@@ -1,4 +1,6 @@
 // The puller: the object table, the puller's record, one method taken, and one retry of an acquire.
+#![tactic(auto)]
+
 mod object;
 mod record;
 mod taking;

@@ -4,7 +4,7 @@ ghost use Rattle.std.specs.Prelude.{◌≡◌, ◌+◌, ◌*◌, ◌<◌, length
 ghost use Rattle.puller.specs.Object.{object_at};
 ghost use Rattle.puller.specs.Outcomes.{Finds, Repeats};
 
-#[derive(Drop)]
+#[derive(Clone, Copy)]
 pub struct Object {
     pub engine: u32,
     pub address: u32,
@@ -13,14 +13,14 @@ pub struct Object {
     pub paged: bool,
 }
 
-#[derive(Drop)]
+#[derive(Clone, Copy)]
 pub enum Found {
     Object { object: Object },
     Nothing,
 }
 
 // The first entry whose handle stood before, if there is one.
-#[derive(Drop)]
+#[derive(Clone, Copy)]
 pub enum Repeat {
     Entry { index: usize },
     Nothing,

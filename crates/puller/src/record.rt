@@ -4,7 +4,7 @@ ghost use Rattle.puller.specs.Record.{with_error, with_acquire};
 ghost use Rattle.puller.specs.Outcomes.{Numbers, Halts};
 
 // What stopped the puller: CACHE_ERROR NO_HASH or EMPTY_SUBCHANNEL, or SEMAPHORE 1 to 4.
-#[derive(Drop)]
+#[derive(Clone, Copy)]
 pub enum PullerError {
     None,
     NoHash,
@@ -45,7 +45,7 @@ impl PullerError {
 }
 
 // Where semaphores are: the object's address, 0 where none is bound, and the offset in bytes.
-#[derive(Drop)]
+#[derive(Clone, Copy)]
 pub struct Semaphore {
     pub dma: u32,
     pub offset: u32,
@@ -53,7 +53,7 @@ pub struct Semaphore {
 }
 
 // A long semaphore: its address in bytes, and the sequence that it is released with or held against.
-#[derive(Drop)]
+#[derive(Clone, Copy)]
 pub struct LongSemaphore {
     pub address: u64,
     pub sequence: u32,
@@ -61,7 +61,7 @@ pub struct LongSemaphore {
 
 // Where an acquire's word is, and when it lets the acquire pass: at the offset, where it is equal; or
 // at the long semaphore's address, where it is equal, or not behind.
-#[derive(Drop)]
+#[derive(Clone, Copy)]
 pub enum AcquireMode {
     Old,
     Equal,
@@ -69,14 +69,14 @@ pub enum AcquireMode {
 }
 
 // The acquire that waits, if one is active.
-#[derive(Drop)]
+#[derive(Clone, Copy)]
 pub struct Acquire {
     pub active: bool,
     pub value: u32,
     pub mode: AcquireMode,
 }
 
-#[derive(Drop)]
+#[derive(Clone, Copy)]
 pub struct Puller {
     pub engines: [u32; 8],
     pub last: u32,

@@ -13,14 +13,14 @@ use event::{Event, Kind, Method};
 use word::Level;
 
 // The puller after a method or a retry, and what it says.
-#[derive(Drop)]
+#[derive(Clone, Copy)]
 pub struct Taken {
     pub puller: Puller,
     pub event: Event,
 }
 
 // What an acquire comes to: there is no such word, it goes on, or it waits.
-#[derive(Drop)]
+#[derive(Clone, Copy)]
 enum Trial {
     Outside,
     Passes,

@@ -3,7 +3,7 @@ ghost use Rattle.std.specs.Prelude.{◌≡◌};
 ghost use Rattle.pusher.specs.Entry.{entry_of};
 
 // Where the words are, how many, and whether they are outside the main pushbuffer.
-#[derive(Drop)]
+#[derive(Clone, Copy)]
 pub(crate) struct Entry {
     pub address: u64,
     pub size: u64,

@@ -1,4 +1,6 @@
 // The pusher: its record, and one move of it: one word or one IB entry read.
+#![tactic(auto)]
+
 mod entry;
 mod moving;
 mod record;

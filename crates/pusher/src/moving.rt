@@ -12,13 +12,13 @@ use event::{Event, Kind, Method};
 use word::{Mode, Reading, Why, present, read};
 
 // What a move did: an event by itself, or a method submitted to the puller.
-#[derive(Drop)]
+#[derive(Clone, Copy)]
 pub enum Did {
     Event { event: Event },
     Submit { method: Method },
 }
 
-#[derive(Drop)]
+#[derive(Clone, Copy)]
 pub struct Pushed {
     pub pusher: Pusher,
     pub did: Did,

@@ -6,7 +6,7 @@ ghost use Rattle.pusher.specs.Outcomes.{Numbers, Halts};
 use word::{Setting, Why};
 
 // What is set once, at opening. `order` is ib_order, `limit` dma_limit.
-#[derive(Drop)]
+#[derive(Clone, Copy)]
 pub struct Setup {
     pub setting: Setting,
     pub order: u32,
@@ -14,7 +14,7 @@ pub struct Setup {
 }
 
 // What stopped the pusher; of a reserved word, why it is that.
-#[derive(Drop)]
+#[derive(Clone, Copy)]
 pub enum PusherError {
     None,
     Call,
@@ -56,7 +56,7 @@ impl PusherError {
 
 // The run of parameters under way: how many are left, the method that the next one goes to (its
 // byte number divided by 4), and whether a long form still waits for its count.
-#[derive(Drop)]
+#[derive(Clone, Copy)]
 pub struct Run {
     pub count: u32,
     pub method: u16,
@@ -66,14 +66,14 @@ pub struct Run {
 }
 
 // `back` is the return address.
-#[derive(Drop)]
+#[derive(Clone, Copy)]
 pub struct Subroutine {
     pub active: bool,
     pub back: u32,
 }
 
 // ib_get and ib_put.
-#[derive(Drop)]
+#[derive(Clone, Copy)]
 pub struct Ib {
     pub get: u32,
     pub put: u32,
@@ -81,21 +81,21 @@ pub struct Ib {
 
 // Whether the words come from the main pushbuffer, and how far that has been read: dma_mget and its
 // valid flag.
-#[derive(Drop)]
+#[derive(Clone, Copy)]
 pub struct Main {
     pub nonmain: bool,
     pub mget: u64,
     pub valid: bool,
 }
 
-#[derive(Drop)]
+#[derive(Clone, Copy)]
 pub struct Sli {
     pub mask: u32,
     pub active: bool,
 }
 
 // `get` is the read address.
-#[derive(Drop)]
+#[derive(Clone, Copy)]
 pub struct Pusher {
     pub get: u64,
     pub put: u64,

@@ -8,7 +8,7 @@ use libc::STDIN_FILENO;
 // uses up.
 const MOST_CALLS: u64 = u64::MAX;
 
-#[derive(Drop)]
+#[derive(Clone, Copy)]
 pub(crate) enum Input {
     // So many bytes, at the start of the room.
     Bytes(usize),

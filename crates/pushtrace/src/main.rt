@@ -1,6 +1,8 @@
 // Prints what a channel does with the command words on standard input, step by step. What a line says,
 // when the run ends and what is refused is the library's, `trace`. Where it can't read or write it says
 // so on standard error, since no program in Rattle has an exit status.
+#![tactic(auto)]
+
 mod input;
 
 ghost use Rattle.std.specs.Prelude.{◌≤◌};

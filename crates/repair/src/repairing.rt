@@ -13,7 +13,7 @@ use word::{Check, Level, Mode, Refusal, Setting};
 const MOST_REPAIRED: usize = 8192;
 
 // What the repair answers: how many bytes of the map it changed, or why it changed nothing.
-#[derive(Drop)]
+#[derive(Clone, Copy)]
 pub enum Repaired {
     Changes { count: usize },
     Refused { refusal: Refusal },

@@ -4,7 +4,7 @@ use crate::reason::Reason;
 use word::{Refusal, Why};
 
 // The first pair that is refused, if any is, with its reason.
-#[derive(Drop)]
+#[derive(Clone, Copy)]
 pub enum FirstRefused {
     Nothing,
     At { reason: Reason, pair: Pair },
@@ -12,7 +12,7 @@ pub enum FirstRefused {
 
 // What is said of a submission: that it is accepted; why it is not, and at which place; or why there is
 // no judgement. Reason 3 has a case of its own, which says why the word there is reserved.
-#[derive(Drop)]
+#[derive(Clone, Copy)]
 pub enum Verdict {
     Accepted,
     Rejected { reason: Reason, place: u32 },
@@ -21,7 +21,7 @@ pub enum Verdict {
 }
 
 // `count` is how many methods the list permits, 0 where there is no judgement.
-#[derive(Drop)]
+#[derive(Clone, Copy)]
 pub struct Judgement {
     pub verdict: Verdict,
     pub count: u32,

@@ -1,5 +1,7 @@
 // What the gatekeeper goes by: its answers, and in specs/ the map, the list of permitted methods, the
 // reasons, the path rule and the promises. The code is in `gate`.
+#![tactic(auto)]
+
 mod judging;
 mod pair;
 mod parameters;

@@ -1,7 +1,7 @@
 // Pairs of a place and a state.
 
 // A place, in main or inside a subroutine.
-#[derive(Drop)]
+#[derive(Clone, Copy)]
 pub struct Pair {
     pub place: usize,
     pub inside: bool,
@@ -9,7 +9,7 @@ pub struct Pair {
 
 // The pairs at which the words go on after a command: how many there are, at most two, and which. One
 // that is not there has place 0, in main.
-#[derive(Drop)]
+#[derive(Clone, Copy)]
 pub struct Nexts {
     pub count: u32,
     pub first: Pair,

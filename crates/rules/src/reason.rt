@@ -1,7 +1,7 @@
 // The reasons that speak against a command.
 
 // A reason, by its number (docs/CARD.md, G).
-#[derive(Drop)]
+#[derive(Clone, Copy)]
 pub struct Reason {
     pub number: u8,
 }
@@ -35,7 +35,7 @@ impl Reason {
 }
 
 // What speaks against a command where it stands, if anything does.
-#[derive(Drop)]
+#[derive(Clone, Copy)]
 pub enum Finding {
     Nothing,
     Against { reason: Reason },

@@ -11,7 +11,7 @@ use rules::Finding;
 use word::{MOST_WORDS, Refusal, Setting};
 
 // What the search answers: how many pairs it found, or why it did not search.
-#[derive(Drop)]
+#[derive(Clone, Copy)]
 pub enum Searched {
     Pairs { count: usize },
     Refused { refusal: Refusal },

@@ -2,6 +2,8 @@
 // steps, of which at most 4,000,000 are made, and then the channel's words, all little-endian. Prints how
 // many steps had each kind of event, by the kind's number, and how many were refused, as kind 0; and the
 // last read address.
+#![tactic(auto)]
+
 ghost use Rattle.std.specs.Prelude.{◌≤◌, length};
 
 use channel::{Answer, Channel};

@@ -9,20 +9,20 @@ use pusher::PusherError;
 pub const BUDGET: u32 = 65_536;
 
 // What stopped a channel: the error of either half.
-#[derive(Drop)]
+#[derive(Clone, Copy)]
 pub enum Cause {
     Pusher { error: PusherError },
     Puller { error: PullerError },
 }
 
-#[derive(Drop)]
+#[derive(Clone, Copy)]
 pub enum End {
     Error { cause: Cause },
     Idle,
     Budget,
 }
 
-#[derive(Drop)]
+#[derive(Clone, Copy)]
 pub enum Ending {
     GoesOn,
     Over { end: End },

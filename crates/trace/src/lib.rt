@@ -1,4 +1,6 @@
 // What the program prints: the text of a step and of a run's end, and the run line by line.
+#![tactic(auto)]
+
 mod end;
 mod line;
 mod run;

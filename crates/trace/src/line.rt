@@ -8,7 +8,7 @@ ghost use Rattle.trace.specs.Line.{line_of, pushed, added};
 pub const MOST_TEXT: usize = 160;
 
 // A text's bytes, as many as `length` says; those behind them are 0.
-#[derive(Drop)]
+#[derive(Clone, Copy)]
 pub struct Line {
     pub bytes: [u8; MOST_TEXT],
     pub length: usize,

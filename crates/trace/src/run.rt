@@ -14,14 +14,14 @@ use word::{Level, Mode, Refusal, word_at};
 pub const MOST_BYTES: usize = 32_768;
 
 // What a run is about to tell: why there is none, the next step or its end, or nothing more.
-#[derive(Drop)]
+#[derive(Clone, Copy)]
 pub enum Stage {
     Refused { refusal: Refusal },
     Running,
     Over,
 }
 
-#[derive(Drop)]
+#[derive(Clone, Copy)]
 pub struct Trace {
     pub stage: Stage,
     pub channel: Channel,
@@ -29,7 +29,7 @@ pub struct Trace {
 }
 
 // A line, and the run after it.
-#[derive(Drop)]
+#[derive(Clone, Copy)]
 pub struct Told {
     pub line: Line,
     pub trace: Trace,

@@ -1,4 +1,6 @@
 // What a host program in C calls (include/upborliya.h): numbers and slices in, one number out.
+#![tactic(auto)]
+
 mod judging;
 mod reading;
 mod repairing;

@@ -97,10 +97,10 @@ unfolding against
 clashes f g (here {fs = gs}) a = (both (clash 32 f.word g.word) (against f gs) a).0
 clashes f g (there {g = k} {fs = gs} i) a = clashes f g i (both (clash 32 f.word k.word) (against f gs) a).1
 
-form_in_lem : {fs : List Form} → exclusive fs ≡ true → (g : Form) → In g fs → (w : ℕ) → has_bits g.word w ≡ true → form_in fs w ≡ g
+form_in_lem : {g : Form} {fs : List Form} → exclusive fs ≡ true → In g fs → (w : ℕ) → has_bits g.word w ≡ true → form_in fs w ≡ g
 unfolding form_in exclusive
-form_in_lem x g (here {fs}) w e = choose_true e g (form_in fs w)
-form_in_lem x g (there {g = f} {fs} i) w e = go (has_bits f.word w) refl (λ y. form_in_lem y g i w e)
+form_in_lem {g = g} x (here {fs = fs}) w e = choose_true e g (form_in fs w)
+form_in_lem {g = g} x (there {g = f} {fs = fs} i) w e = go (has_bits f.word w) refl (λ y. form_in_lem {g = g} {fs = fs} y i w e)
   where
     go : (b : Bool) → has_bits f.word w ≡ b → (exclusive fs ≡ true → form_in fs w ≡ g) → choose b f (form_in fs w) ≡ g
     go true t rest =
@@ -111,16 +111,16 @@ form_in_lem x g (there {g = f} {fs} i) w e = go (has_bits f.word w) refl (λ y. 
 -- a word that fits a form of the table has that form
 pub the_form : (f : Form) → In f forms → (w : ℕ) → has_bits f.word w ≡ true → form_of w ≡ f
 unfolding forms exclusive against clash differ bit_in bit_of or_else choose increasing non_increasing sli_conditional returning long old_jump jump call
-the_form f i w e = form_in_lem {fs = forms} refl f i w e
+the_form f i w e = form_in_lem {g = f} {fs = forms} refl i w e
 
 -- to show something of a form of the table, show it of each of the eight
 abbrev All : (Form → Type 0) → List Form → Type 0
 All P [] = Unit {0}
 All P (f ∷ fs) = P f × All P fs
 
-each : (P : Form → Type 0) {fs : List Form} → All P fs → {f : Form} → In f fs → P f
-each P a here = a.0
-each P a (there i) = each P a.1 i
+each : (P : Form → Type 0) {f : Form} {fs : List Form} → All P fs → In f fs → P f
+each P {f = f} a (here {fs = fs}) = a.0
+each P {f = f} a (there {fs = fs} i) = each P {f = f} {fs = fs} a.1 i
 
 pub eight :
     (P : Form → Type 0)

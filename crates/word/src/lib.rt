@@ -1,5 +1,7 @@
 // What one command word means: the setting it is read at, its reading, its writing, and which
 // special methods a level has.
+#![tactic(auto)]
+
 mod lent;
 mod reading;
 mod setting;

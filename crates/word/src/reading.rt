@@ -13,7 +13,7 @@ use crate::why::Why;
 
 // A command, with its numbers in the order in which its words hold them. Methods and targets are
 // byte numbers, multiples of 4.
-#[derive(Drop)]
+#[derive(Clone, Copy)]
 pub enum Reading {
     Increasing {
         count: u32,
@@ -52,7 +52,7 @@ pub enum Reading {
 }
 
 // What stands at a place of lent words.
-#[derive(Drop)]
+#[derive(Clone, Copy)]
 pub enum Place {
     Word { reading: Reading },
     Past,

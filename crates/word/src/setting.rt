@@ -4,7 +4,7 @@ ghost use Rattle.word.specs.Setting.{mode_refused, sli_refused};
 ghost use Rattle.word.specs.Outcomes.{Checks};
 
 // A card, by the first of its level. Any number can be handed in; LEVEL refuses those above NV84's.
-#[derive(Drop)]
+#[derive(Clone, Copy)]
 pub struct Level {
     pub number: u32,
 }
@@ -24,7 +24,7 @@ impl Level {
 }
 
 // How commands reach the card. Any number can be handed in; MODE refuses those above IB's.
-#[derive(Drop)]
+#[derive(Clone, Copy)]
 pub struct Mode {
     pub number: u32,
 }
@@ -36,7 +36,7 @@ impl Mode {
 }
 
 // Why an input is refused: by its number (docs/CARD.md, R).
-#[derive(Drop)]
+#[derive(Clone, Copy)]
 pub struct Refusal {
     pub number: u8,
 }
@@ -73,14 +73,14 @@ impl Refusal {
 pub const MOST_WORDS: usize = 1_048_576;
 
 // What a word is read or written at.
-#[derive(Drop)]
+#[derive(Clone, Copy)]
 pub struct Setting {
     pub level: Level,
     pub mode: Mode,
     pub sli: bool,
 }
 
-#[derive(Drop)]
+#[derive(Clone, Copy)]
 pub enum Check {
     Fine,
     Refused { refusal: Refusal },

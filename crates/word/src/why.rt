@@ -2,7 +2,7 @@
 ghost use Rattle.word.specs.Outcomes.{Counts};
 
 // No such form; not at this level; not in this mode; not with SLI off. The first that applies counts.
-#[derive(Drop)]
+#[derive(Clone, Copy)]
 pub enum Why {
     Form,
     Level,

@@ -10,7 +10,7 @@ use crate::why::Why;
 
 // What the writer answers: how many words it wrote, or why it wrote none. The refusal FORM has a case of
 // its own, which says why the command may not be used.
-#[derive(Drop)]
+#[derive(Clone, Copy)]
 pub enum Written {
     Words { count: usize },
     Refused { refusal: Refusal },

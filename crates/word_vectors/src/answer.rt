@@ -6,7 +6,7 @@ use word::{Level, Mode, Place, Reading, Refusal, Setting, Why, Written};
 const BEFORE: [u32; 4] = [0xa5a5_0000, 0xa5a5_0001, 0xa5a5_0002, 0xa5a5_0003];
 
 // A reading's number, values and why, those that it lacks 0.
-#[derive(Drop)]
+#[derive(Clone, Copy)]
 struct Told {
     number: u32,
     a: u32,

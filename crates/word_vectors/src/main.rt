@@ -1,6 +1,8 @@
 // Runs the readings, writings and special methods that the model made: each record on standard
 // input is a question and the model's answer, in little-endian words. Prints how many there were of
 // each kind and how many answers differ, and of the first that does its place and its words.
+#![tactic(auto)]
+
 mod answer;
 mod constant;
 mod question;
@@ -12,7 +14,7 @@ use question::{Kind, RECORD_WORDS, Record};
 const MOST_RECORDS: u32 = 1_000_000;
 
 // How many records of each kind there were, and the first that was wrong, counted from 1.
-#[derive(Drop)]
+#[derive(Clone, Copy)]
 struct Tally {
     read: u32,
     read_at: u32,

@@ -8,7 +8,7 @@ pub(crate) const RECORD_WORDS: usize = 16;
 
 const RECORD_BYTES: usize = 64;
 
-#[derive(Drop)]
+#[derive(Clone, Copy)]
 pub enum Kind {
     Read,
     ReadAt,
@@ -18,7 +18,7 @@ pub enum Kind {
     End,
 }
 
-#[derive(Drop)]
+#[derive(Clone, Copy)]
 pub struct Record {
     pub kind: Kind,
     pub words: [u32; RECORD_WORDS],

@@ -18,43 +18,43 @@ use Rattle.word.proofs.reading.read_at.Statement.{statement}
 use Rattle.word.proofs.reading.read_at.Tie as tie
 
 -- the check has been passed, and then the test of the size
-fine : (c : tie.After-enum-told) → check_of c.before.before.before.before.args.setting ≡ Fine
-fine c = sym c.before.before.check.ensures ∙ c.enum_told.given.1
+fine : (c : tie.In_default) → check_of c.args.setting ≡ Fine
+fine c = sym c.check-check.ensures ∙ c.in_default.is
 
 -- the answer where neither refuses
 abbrev found : Setting → List ℕ → ℕ → Place
 found s ws p = choose (ltb p (length ws)) (Word (reading_of s (get_or ws p 0) (get_or ws (p + 1) 0))) Past
 
 passed :
-    (c : tie.Else1)
-    → let a = c.before.before.before.before.before.args in read_at_of a.setting a.words.now a.place ≡ found a.setting a.words.now a.place
+    (c : tie.Else-words-gt-MOST_WORDS)
+    → let a = c.args in read_at_of a.setting a.words.now a.place ≡ found a.setting a.words.now a.place
 unfolding read_at_of refused_or first
 passed c =
-    let a = c.before.before.before.before.before.args in
+    let a = c.args in
     passed_by a.setting (size_cases (length a.words.now)) Refused _ (fine c.before)
-    ∙ miss SIZE [] Refused _ (le-ltb _ _ c.if1.false)
+    ∙ miss SIZE [] Refused _ (le-ltb _ _ c.if-words-gt-MOST_WORDS.false)
 
-pub read-at-spec : {M : Type 1} → statement M
+pub read_at_spec : {M : Type 1} → statement M
 unfolding read_at_of
-read-at-spec =
+read_at_spec =
     tie.close
     (tie.spec
     (λ c κs. search rules)
     (λ c. search rules)
     (λ c.
-    let a = c.before.before.before.before.before.args in
-    sym (refused_by a.setting (size_cases (length a.words.now)) Refused _ _ (sym c.before.before.before.check.ensures ∙ c.before.check2.given.1)))
+    let a = c.args in
+    sym (refused_by a.setting (size_cases (length a.words.now)) Refused _ _ (sym c.check-check.ensures ∙ c.in-Refused.is)))
     (λ c. search rules)
     (λ c.
-    let a = c.before.before.before.before.before.args in
-    sym (passed_by a.setting (size_cases (length a.words.now)) Refused _ (fine c.before) ∙ hit SIZE [] Refused _ (lt-ltb _ _ c.if1.true)))
-    (λ c. sym (passed c.before ∙ choose_false (le-ltb _ _ c.if2.true) _ _))
+    let a = c.args in
+    sym (passed_by a.setting (size_cases (length a.words.now)) Refused _ (fine c.before) ∙ hit SIZE [] Refused _ (lt-ltb _ _ c.if-words-gt-MOST_WORDS.true)))
+    (λ c. sym (passed c.before ∙ choose_false (le-ltb _ _ c.if-words-place.true) _ _))
     (λ c. search rules)
     (λ c κs. search rules)
     (λ c. search rules)
     (λ c. search rules)
     (λ c κs. search rules)
     (λ c.
-    let a = c.before.before.before.before.before.before.before.before.before.args in
-    ap Word (c.read-checked.ensures ∙ ap (reading_of a.setting (get_or a.words.now a.place 0)) c.before.before.word-or-zero.ensures)
-    ∙ sym (passed c.before.before.before.before ∙ choose_true (lt-ltb _ _ c.before.before.before.if2.false) _ _)))
+    let a = c.args in
+    ap Word (c.read_checked.ensures ∙ ap (reading_of a.setting (get_or a.words.now a.place 0)) c.word_or_zero-next.ensures)
+    ∙ sym (passed c.before.before.before.before ∙ choose_true (lt-ltb _ _ c.if-words-place.false) _ _)))

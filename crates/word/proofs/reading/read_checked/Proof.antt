@@ -10,23 +10,23 @@ use Rattle.word.proofs.reading.read_checked.Statement.{statement}
 use Rattle.word.proofs.reading.read_checked.Tie as tie
 
 -- the command's form is the word's
-same_form : (c : tie.After-command) → form c.command.result ≡ form_of c.before.args.word
-same_form c = ap form c.command.ensures ∙ form_of_command c.before.args.word c.before.args.next
+same_form : (c : tie.After-command-command) → form c.command-command.result ≡ form_of c.args.word
+same_form c = ap form c.command-command.ensures ∙ form_of_command c.args.word c.args.next
 
 -- what `available` answered is whether that may be used
-tested : (c : tie.After-available) → usable c.before.before.args.setting (form_of c.before.before.args.word) ≡ c.available.result
-tested c = ap (usable c.before.before.args.setting) (sym (same_form c.before)) ∙ sym c.available.ensures
+tested : (c : tie.After-available) → usable c.args.setting (form_of c.args.word) ≡ c.available.result
+tested c = ap (usable c.args.setting) (sym (same_form c.before)) ∙ sym c.available.ensures
 
-pub read-checked-spec : {M : Type 1} → statement M
+pub read_checked_spec : {M : Type 1} → statement M
 unfolding reading_of
-read-checked-spec =
+read_checked_spec =
     tie.close
     (tie.spec
     (λ c κs. search rules)
     (λ c κs. search rules)
-    (λ c κs. sym c.before.available.ensures ∙ c.if1.false)
-    (λ c. c.before.before.command.ensures ∙ sym (choose_true (tested c.before ∙ c.if1.true) _ _))
+    (λ c κs. sym c.available.ensures ∙ c.if-available.false)
+    (λ c. c.command-command.ensures ∙ sym (choose_true (tested c.before ∙ c.if-available.true) _ _))
     (λ c.
     let start = c.before.before.before in
-    let same = ap (λ (f : Form). why_of (why_not start.before.args.setting f)) (same_form start) in
-    ap Reserved (c.why-not.ensures ∙ same) ∙ sym (choose_false (tested c.before.before ∙ c.before.if1.false) _ _)))
+    let same = ap (λ (f : Form). why_of (why_not start.args.setting f)) (same_form start) in
+    ap Reserved (c.why_not.ensures ∙ same) ∙ sym (choose_false (tested c.before.before ∙ c.if-available.false) _ _)))

@@ -45,9 +45,9 @@ right s (Refused n) u = refl
 told : (c : tie.Start) {d : Reading} {y : Why} → c.args.command ≡ d → y ≡ said c.args.setting d → y ≡ why_of (why_not c.args.setting (form c.args.command))
 told c e h = h ∙ ap (said c.args.setting) (sym e) ∙ right c.args.setting c.args.command c.requires
 
-pub why-not-spec : {M : Type 1} → statement M
+pub why_not_spec : {M : Type 1} → statement M
 unfolding said
-why-not-spec =
+why_not_spec =
     tie.close
     (tie.spec
     (λ c. search rules)
@@ -64,13 +64,13 @@ why-not-spec =
     (λ c κs. search rules)
     (λ c. search rules)
     (λ c. search rules)
-    (λ c. told c.before.before.before c.enum_told.given.1 refl)
-    (λ c. told c.before.before.before c.enum-told2.given.1 refl)
-    (λ c. told c.before.before.before.before c.before.enum-told3.given.1 c.level-or.ensures)
-    (λ c. told c.before.before.before.before c.before.enum-told4.given.1 c.level-or2.ensures)
-    (λ c. told c.before.before.before c.enum-told5.given.1 refl)
-    (λ c. told c.before.before.before c.enum-told6.given.1 refl)
-    (λ c. told c.before.before.before.before c.before.enum-told7.given.1 c.level-or3.ensures)
-    (λ c. told c.before.before.before.before c.before.enum-told8.given.1 c.level-or4.ensures)
-    (λ c. told c.before.before.before c.enum-told9.given.1 refl)
-    (λ c. told c.before.before.before c.enum-told10.given.1 refl))
+    (λ c. told c.before.before c.in-Increasing.is refl)
+    (λ c. told c.before.before c.in-NonIncreasing.is refl)
+    (λ c. told c.before.before.before c.in-Sli.is c.level_or.ensures)
+    (λ c. told c.before.before.before c.in-Return.is c.level_or-in-Return.ensures)
+    (λ c. told c.before.before c.in-Long.is refl)
+    (λ c. told c.before.before c.in-OldJump.is refl)
+    (λ c. told c.before.before.before c.in-Jump.is c.level_or-in-Jump.ensures)
+    (λ c. told c.before.before.before c.in-Call.is c.level_or-in-Call.ensures)
+    (λ c. told c.before.before c.in-Reserved.is refl)
+    (λ c. told c.before.before c.in-Refused.is refl))

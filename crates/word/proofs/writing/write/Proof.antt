@@ -23,21 +23,21 @@ use Rattle.word.proofs.writing.write.Statement.{statement}
 use Rattle.word.proofs.writing.write.Tie as tie
 
 -- what the tests have shown, where they have been passed
-fine : (c : tie.After-enum-told) → check_of c.before.before.before.before.args.setting ≡ check.Fine
-fine c = sym c.before.before.check.ensures ∙ c.enum_told.given.1
+fine : (c : tie.In_default) → check_of c.args.setting ≡ check.Fine
+fine c = sym c.check-check.ensures ∙ c.in_default.is
 
-fields : (c : tie.Else1) → let r = c.before.before.before.before.before.before.args.command in numbers_fit ((form r).word ++ (form r).next) (values r) ≡ true
-fields c = sym c.before.fields_fit.ensures ∙ not-false _ c.if1.false
+fields : (c : tie.Else-not-fields_fit) → let r = c.args.command in numbers_fit ((form r).word ++ (form r).next) (values r) ≡ true
+fields c = sym c.fields_fit.ensures ∙ c.if-not-fields_fit.false
 
-barred : (c : tie.Then2) → let a = c.before.before.before.before.before.before.before.before.args in usable a.setting (form a.command) ≡ false
-barred c = sym c.before.available.ensures ∙ not-true _ c.if2.true
+barred : (c : tie.Then-not-available) → let a = c.args in usable a.setting (form a.command) ≡ false
+barred c = sym c.available.ensures ∙ c.if-not-available.true
 
-past : (c : tie.Else2) → let a = c.before.before.before.before.before.before.before.before.args in Past a.setting a.command
+past : (c : tie.Else-not-available) → let a = c.args in Past a.setting a.command
 past c =
     record {
       fine = fine c.before.before.before.before;
       fields = fields c.before.before;
-      there = sym c.before.available.ensures ∙ not-false _ c.if2.false;
+      there = sym c.available.ensures ∙ c.if-not-available.false;
     }
 
 -- an answer with the output that goes with it
@@ -60,29 +60,29 @@ write_spec =
     (tie.spec
     (λ c κs. search rules)
     (λ c. search rules)
-    (λ c. refused _ _ _ _ (by_setting _ _ _ _ (sym c.before.before.before.check.ensures ∙ c.before.check2.given.1)))
+    (λ c. refused _ _ _ _ (by_setting _ _ _ _ (sym c.check-check.ensures ∙ c.in-Refused.is)))
     (λ c. search rules)
     (λ c κs. search rules)
-    (λ c. refused _ _ _ _ (by_field _ _ _ (fine c.before.before) (sym c.before.fields_fit.ensures ∙ not-true _ c.if1.true)))
+    (λ c. refused _ _ _ _ (by_field _ _ _ (fine c.before.before) (sym c.fields_fit.ensures ∙ c.if-not-fields_fit.true)))
     (λ c κs. search rules)
     (λ c κs. barred c)
     (λ c.
     unusable _ _ _
-    (by_form _ _ _ (fine c.before.before.before.before.before) (fields c.before.before.before) (barred c.before) ∙ ap written.Form (sym c.why-not.ensures)))
+    (by_form _ _ _ (fine c.before.before.before.before.before) (fields c.before.before.before) (barred c.before) ∙ ap written.Form (sym c.why_not.ensures)))
     (λ c. search rules)
-    (λ c. refused _ _ _ _ (by_room _ _ _ (past c.before.before) (one_word _ c.before.match2.keys2) c.if3.true))
+    (λ c. refused _ _ _ _ (by_room _ _ _ (past c.before.before) (one_word _ c.in_default-command.in_default-command-own.keys2) c.if-out-lt1.true))
     (λ c κs. (past c.before.before).fields)
     (λ c. search rules)
     (λ c. search rules)
     (λ c.
-    let one = one_word _ c.before.before.match2.keys2 ∙ ap (λ (w : ℕ). w ∷ []) (sym c.first_word.ensures) in
-    wrote _ _ _ one (by_words _ _ _ (past c.before.before.before) one c.before.if3.false))
-    (λ c. refused _ _ _ _ (by_room _ _ _ (past c.before.before.before.before) (two_words c.before.before.command.given.1) c.if4.true))
-    (λ c κs. rw c.before.before.command.given.1 at (past c.before.before.before.before).fields)
+    let one = one_word _ c.in_default-command.in_default-command-own.keys2 ∙ ap (λ (w : ℕ). w ∷ []) (sym c.first_word.ensures) in
+    wrote _ _ _ one (by_words _ _ _ (past c.before.before.before) one c.if-out-lt1.false))
+    (λ c. refused _ _ _ _ (by_room _ _ _ (past c.before.before) (two_words c.in-Long.is) c.if-out-lt2.true))
+    (λ c κs. rw c.in-Long.is at (past c.before.before).fields)
     (λ c. search rules)
     (λ c. search rules)
     (λ c. search rules)
     (λ c.
-    let n = c.before.before.before.command.given.0.1.1.0 in
-    let two = two_words c.before.before.before.command.given.1 ∙ ap (λ (w : ℕ). w ∷ n ∷ []) (sym c.first-word2.ensures) in
-    wrote _ _ _ two (by_words _ _ _ (past c.before.before.before.before.before) two c.before.if4.false)))
+    let n = c.in-Long.count in
+    let two = two_words c.in-Long.is ∙ ap (λ (w : ℕ). w ∷ n ∷ []) (sym c.first_word-2.ensures) in
+    wrote _ _ _ two (by_words _ _ _ (past c.before.before.before) two c.if-out-lt2.false)))
