@@ -1,18 +1,22 @@
 -- The methods that a command's parameters go to. Assumes nothing.
-use Prim.Native.Nat.{ℕ, ◌+◌, ◌≤◌, ◌<◌}
+use Prim.Native.Nat.{ℕ, ◌+◌, ◌*◌, ◌%◌, ◌≤◌, ◌<◌}
 use mathlib.Core.Path.{◌≡◌, refl}
-use mathlib.Core.Bool.{Bool, true, false, not, and-false, false≢true}
+use mathlib.Core.Bool.{Bool, true, false, not, ◌&&◌, and-false, false≢true}
 use mathlib.Core.List.{List}
 use mathlib.Core.Logic.Iff
 use mathlib.Core.Logic.{◌↔◌}
 use native.Mathlib.Omega.{arith}
 use lib.Dec.{ltb}
+use borrow.Author.Tests.{le-leb, ltb-false}
 use Rattle.word.specs.First.{choose}
 use Rattle.word.specs.Lowest.{lowest, found?}
 use Rattle.word.specs.Reading.{number, values, parameter_count}
+use Rattle.word.specs.Special.{present_of}
 use Rattle.word.specs.declared.setting.Setting.{Setting}
 use Rattle.word.specs.declared.reading.Reading.{Reading}
 use Rattle.word.specs.declared.reading.Reading.TheVariants.{Increasing, NonIncreasing, Sli, Return, Long, OldJump, Jump, Call, Reserved, Refused}
+use Rattle.word.proofs.First.{by_test}
+use Rattle.word.proofs.Lowest.{none_found}
 use Rattle.word.proofs.Tests.{and_plain, less_plain}
 use Rattle.word.proofs.Told.{told_unreserved}
 use Rattle.rules.specs.Parameters.{methods_of, method_for, wraps, any_fails, lacking, denied}
@@ -52,6 +56,16 @@ unfolding number values parameter_count methods_of wraps
 wraps_plain d =
     let parts = and_plain (methods_of d).increasing _ Iff.rfl (and_plain (ltb 0 (parameter_count d)) _ (less_plain 0 _) (less_plain 2048 _)) in
     (λ e. let h = parts.0 e in over d (goes_to d 0 h.1.0) h.0 h.1.1, λ (c, b, m, e, v, some, past). parts.1 (rw (told_unreserved d (Increasing c b m) e v (λ nine. omega arith)) (refl, (some, past))))
+
+-- no level lacks a method from 0x100 up, where the first of n is none below, and they don't go past 0x1ffc
+pub above_special : (ms : Methods) (n : ℕ) → 0x40 ≤ ms.method → ms.increasing && ltb 2048 (ms.method + n) ≡ false → (level : ℕ) → any_fails (present_of level) ms n ≡ false
+unfolding any_fails method_for present_of
+above_special ms n low up level =
+    none_found _ _
+    (λ k l.
+    let high_enough : 0x100 ≤ 4 * choose ms.increasing ((ms.method + k) % 2048) ms.method =
+    by_test (λ (m : ℕ). 0x100 ≤ 4 * m) (λ e. let high = ltb-false 2048 (ms.method + n) (rw e at up) in omega arith) (λ e. omega arith) in
+    rw (le-leb 0x100 (4 * choose ms.increasing ((ms.method + k) % 2048) ms.method) high_enough))
 
 -- where no parameters follow, none goes past 0x1ffc, and no test fails
 pub none_fails : (setting : Setting) (list : List ℕ) (d : Reading) → parameter_count d ≡ 0 → (wraps d ≡ false) × (lacking setting d ≡ false) × (denied list d ≡ false)
