@@ -1,7 +1,6 @@
 use mathlib.Core.Path.{◌≡◌, sym, ◌∙◌}
 use mathlib.Core.Bool.{true, and-false}
 use borrow.Author.Rules.{rules}
-use borrow.Author.Tests.{not-true, not-false}
 use Rattle.channel.specs.State.{setup_fits, within, other_widths}
 use Rattle.channel.proofs.Widths.{others, well_formed_lem}
 use Rattle.channel.proofs.record.Channel.well_formed.Statement.{statement}
