@@ -1,4 +1,2 @@
 pub mod Items
 pub mod Promises
-pub mod Walk
-pub mod Reader

@@ -1,6 +1,6 @@
 -- The engines of the subchannels: there are eight, and a number above them has none. Assumes nothing.
 use Rattle.std.proofs.Common.{◌≡◌, ℕ, ◌≤◌, List, length, sym, ◌∙◌, arith}
-use lib.ListN.{length-map, get_or-eq_default}
+use lib.ListN.{get_or-eq_default}
 use lib.Seq.{set_out}
 use mir.Val.{Val}
 use denote.Laws.{Is}
@@ -11,7 +11,7 @@ use Rattle.puller.specs.contracts.record.Puller.{the_type}
 
 -- of a puller handed to a function, whose type says so
 pub eight : (p : Puller) (vs : List Val) → Is (row the_type) p vs → length p.engines ≡ 8
-eight p vs h = sym (length-map p.engines _) ∙ h.1.1.0.1.0.1
+eight p vs h = h.1.1.0.1.0.1
 
 module _ (p : Puller) (all : length p.engines ≡ 8) (s : ℕ) (above : 8 ≤ s) where
   pub no_engine : 0 ≡ engine_of p s

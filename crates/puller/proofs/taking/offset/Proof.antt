@@ -27,31 +27,31 @@ none_outside w = rw (outside w) (go (bits 31 12 w) (bits 1 0 w) (eqb (bits 1 0 w
 
 -- the parameter is a word
 word : (c : tie.Start) → c.args.method.parameter < 2 ^ 32
-word c = c.well_formed_lem.1.1.0.1.1.1.1.0.1
+word c = c.well_formed.1.1.0.1.1.1.1.0.1
 
-pub offset-spec : {M : Type 1} → statement M
+pub offset_spec : {M : Type 1} → statement M
 unfolding offset_of choose
-offset-spec =
+offset_spec =
     tie.close
     (tie.spec
     (λ c κs. search rules)
     (λ c.
-    let w = c.before.before.before.before.before.args.method.parameter in
-    rw (c.failed.ensures, lt-ltb _ _ c.before.before.if1.true, sym (none_outside w) ∙ ne_eqb _ _ c.before.if2.true))
+    let w = c.args.method.parameter in
+    rw (c.failed.ensures, lt-ltb _ _ c.if-level.true, sym (none_outside w) ∙ ne_eqb _ _ c.if-offset-ne0.true))
     (λ c κs. search rules)
     (λ c.
-    let w = c.before.before.before.before.before.before.args.method.parameter in
-    rw (c.done.ensures, lt-ltb _ _ c.before.before.before.if1.true, sym (none_outside w) ∙ eq-eqb _ _ c.before.before.if2.false))
+    let w = c.args.method.parameter in
+    rw (c.done.ensures, lt-ltb _ _ c.if-level.true, sym (none_outside w) ∙ eq-eqb _ _ c.if-offset-ne0.false))
     (λ c κs. search rules)
-    (λ c. rw (c.failed2.ensures, le-ltb _ _ c.before.before.if1.false, ← field_0 _ 1, ne_eqb _ _ c.before.if3.true))
+    (λ c. rw (c.failed-then-offset-ne0-2.ensures, le-ltb _ _ c.if-level.false, ← field_0 _ 1, ne_eqb _ _ c.if-offset-ne0-2.true))
     (λ c κs. search rules)
     (λ c.
     let one = c.before.before.before in
     let half = upper_half _ (word one.before.before.before) in
-    rw (c.failed3.ensures, le-ltb _ _ one.if1.false, ← field_0 _ 1, eq-eqb _ _ c.before.before.if3.false, half, ne_eqb _ _ c.before.if4.true))
+    rw (c.failed-then-offset-ne0-3.ensures, le-ltb _ _ c.if-level.false, ← field_0 _ 1, eq-eqb _ _ c.if-offset-ne0-2.false, half, ne_eqb _ _ c.if-offset-ne0-3.true))
     (λ c κs. search rules)
     (λ c.
     let three = c.before.before.before.before in
     let one = three.before in
     let half = upper_half _ (word one.before.before.before) in
-    rw (c.done2.ensures, le-ltb _ _ one.if1.false, ← field_0 _ 1, eq-eqb _ _ three.if3.false, half, eq-eqb _ _ c.before.before.before.if4.false)))
+    rw (c.done-2.ensures, le-ltb _ _ c.if-level.false, ← field_0 _ 1, eq-eqb _ _ c.if-offset-ne0-2.false, half, eq-eqb _ _ c.if-offset-ne0-3.false)))
