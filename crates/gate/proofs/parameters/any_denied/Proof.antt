@@ -6,7 +6,7 @@ use borrow.Author.Rules.{rules}
 use Rattle.rules.specs.Permit.{permits}
 use Rattle.rules.specs.declared.parameters.Methods.{Methods}
 use Rattle.rules.proofs.Scans.{Passed, outset}
-use Rattle.rules.proofs.Methods.{fails, method_onward, method_met, methods_fine}
+use Rattle.rules.proofs.MethodLaws.{fails, method_onward, method_met, methods_fine}
 use Rattle.gate.proofs.parameters.any_denied.Statement.{statement}
 use Rattle.gate.proofs.parameters.any_denied.Tie as tie
 

@@ -14,7 +14,7 @@ use Rattle.rules.specs.Map.{marked, among, unmarked}
 use Rattle.rules.specs.Next.{nexts}
 use Rattle.rules.specs.Reason.{MARKED_PARAMETER, Submission, submission, size, own_cases, next_cases}
 use Rattle.rules.specs.declared.pair.Pair.{Pair}
-use Rattle.rules.proofs.Nexts.{at_most_two}
+use Rattle.rules.proofs.NextLaws.{at_most_two}
 use Rattle.rules.proofs.Findings.{found_first, found_later, found_here, found_past, unmarked_none, at_command}
 use Rattle.gate.proofs.reason.at_mark.Statement.{statement}
 use Rattle.gate.proofs.reason.at_mark.Tie as tie

@@ -11,7 +11,7 @@ use Rattle.word.specs.First.{choose, first, ◌when◌}
 use Rattle.word.specs.Lent.{words_of}
 use Rattle.rules.specs.Parameters.{place_after, wraps, lacking, denied}
 use Rattle.rules.specs.Reason.{WRAPS, NON_CACHE, NOT_PERMITTED, submission, reserved?, call?, return?, own_cases, finding_of}
-use Rattle.rules.proofs.Methods.{none_fails}
+use Rattle.rules.proofs.MethodLaws.{none_fails}
 use Rattle.gate.proofs.reason.own_reason.Statement.{statement}
 use Rattle.gate.proofs.reason.own_reason.Tie as tie
 

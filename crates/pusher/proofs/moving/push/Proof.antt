@@ -10,8 +10,8 @@ use Rattle.pusher.proofs.moving.push.Statement.{statement}
 use Rattle.pusher.proofs.moving.push.Tie as tie
 
 -- no error has stopped it
-runs : (c : tie.Else1) → halts c.before.before.before.before.args.pusher.error ≡ false
-runs c = sym c.before.stopped.ensures ∙ c.if1.false
+runs : (c : tie.Else-stopped) → halts c.args.pusher.error ≡ false
+runs c = sym c.stopped.ensures ∙ c.if-stopped.false
 
 pub push_spec : {M : Type 1} → statement M
 unfolding push_of act
@@ -20,19 +20,19 @@ push_spec =
     (tie.spec
     (λ c κs. search rules)
     (λ c κs. search rules)
-    (λ c. c.quiet.ensures ∙ ap (act _ _ _) (sym (when_halted _ _ _ (sym c.before.before.stopped.ensures ∙ c.before.if1.true))))
+    (λ c. c.quiet.ensures ∙ ap (act _ _ _) (sym (when_halted _ _ _ (sym c.stopped.ensures ∙ c.if-stopped.true))))
     (λ c κs. search rules)
-    (λ c. c.word.ensures (to_pusher [] _) ∙ ap (act _ _ _) (sym (when_words _ _ _ (runs c.before.before.before) c.before.if2.true)))
+    (λ c. c.word.ensures (to_pusher [] _) ∙ ap (act _ _ _) (sym (when_words _ _ _ (runs c.before.before.before) c.if-pusher.true)))
     (λ c κs. search rules)
     (λ c.
     let read = c.before.before.before.before in
-    c.quiet2.ensures ∙ ap (act _ _ _) (sym (without_ib _ _ _ (runs read.before.before) read.if2.false c.before.if3.true)))
+    c.quiet-then-setup.ensures ∙ ap (act _ _ _) (sym (without_ib _ _ _ (runs read.before.before) c.if-pusher.false c.if-setup.true)))
     (λ c κs. search rules)
     (λ c.
     let read = c.before.before.before.before.before.before in
-    c.quiet3.ensures ∙ ap (act _ _ _) (sym (without_entries _ _ _ (runs read.before.before) read.if2.false c.before.if4.true)))
+    c.quiet-then-pusher-2.ensures ∙ ap (act _ _ _) (sym (without_entries _ _ _ (runs read.before.before) c.if-pusher.false c.if-pusher-2.true)))
     (λ c κs. search rules)
     (λ c.
     let ib = c.before.before.before in
     let read = ib.before.before.before in
-    c.entry.ensures (to_pusher _ []) ∙ ap (act _ _ _) (sym (when_entries _ _ _ (runs read.before.before) read.if2.false ib.if3.false c.before.if4.false))))
+    c.entry.ensures (to_pusher _ []) ∙ ap (act _ _ _) (sym (when_entries _ _ _ (runs read.before.before) c.if-pusher.false c.if-setup.false c.if-pusher-2.false))))
