@@ -1,6 +1,5 @@
 // The parameters of a command: how many there are, and which methods they go to.
-ghost use Rattle.std.specs.Prelude.{◌≡◌, true, false, ◌&&◌, ◌↔◌, ℕ, ◌+◌, ◌-◌, ◌/◌, ◌%◌, ◌^◌, ◌<◌, min, eqb, ltb};
-ghost use Rattle.word.specs.First.{choose};
+ghost use Rattle.std.specs.Prelude.{◌≡◌, true, false, ◌&&◌, ℕ, ◌+◌, ltb};
 ghost use Rattle.word.specs.Reading.{parameter_count};
 ghost use Rattle.word.specs.Special.{present_of};
 ghost use Rattle.rules.specs.Permit.{permits};
@@ -8,7 +7,7 @@ ghost use Rattle.rules.specs.Parameters.{methods_of, method_for, any_fails};
 
 use crate::permit::permitted;
 use rules::Methods;
-use word::{Reading, Setting, special_mask};
+use word::{Reading, Setting, present};
 
 // How many parameters follow a command: only a run has any.
 pub(crate) fn parameter_count(command: Reading) -> u32
@@ -83,42 +82,29 @@ pub(crate) fn wraps(methods: Methods, count: u32) -> bool
     false
 }
 
-// How many methods a run has below 0x100, from its first on, which is one: a run whose methods rise has one
-// for each parameter, up to 0xfc, and any other has its first.
-fn special_count(methods: Methods, count: u32) -> u32
-    requires { methods.method < 64 }
-    ensures { result ≡ choose methods.increasing (min count (64 - methods.method)) 1 }
+// Whether no parameter goes to a method below 0x100: the first one's is above, and they don't wrap.
+fn none_special(methods: Methods, count: u32) -> bool
+    ensures { result ≡ true → (level : ℕ) → any_fails (present_of level) methods count ≡ false }
 {
-    if !methods.increasing {
-        return 1;
+    if methods.method < 0x40 {
+        return false;
     }
-    let left = 0x40 - methods.method;
-    if left < count {
-        return left;
-    }
-    count
+    !wraps(methods, count)
 }
 
-// The methods below 0x100 that a run's parameters go to, as a mask: bit n is method n's. The run has a
-// parameter, and doesn't wrap.
-fn run_mask(methods: Methods, count: u32) -> u64
-    requires { (0 < count) × (methods.increasing && ltb 2048 (methods.method + count) ≡ false) }
-    ensures { (result < 2 ^ 64) × ((n : ℕ) → n < 64 → eqb (result / 2 ^ n % 2) 1 ≡ true ↔ ((k : ℕ) × (k < count) × (method_for methods k ≡ n))) }
-{
-    if 0x40 <= methods.method {
-        return 0;
-    }
-    (u64::MAX >> (0x40 - special_count(methods, count))) << methods.method
-}
-
-// Whether the level lacks the method of any parameter of a run that has one, and doesn't wrap: whether a bit
-// of the run's mask is not in the level's.
+// Whether the level lacks the method of any parameter. Most runs have none that is special.
 pub(crate) fn any_lacking(setting: Setting, methods: Methods, count: u32) -> bool
-    requires { (0 < count) × (methods.increasing && ltb 2048 (methods.method + count) ≡ false) }
     ensures { result ≡ any_fails (present_of setting.level.number) methods count }
 {
-    let run = run_mask(methods, count);
-    run & special_mask(setting.level) != run
+    if none_special(methods, count) {
+        return false;
+    }
+    for k in 0..count {
+        if !present(setting.level, method_for(methods, k)) {
+            return true;
+        }
+    }
+    false
 }
 
 // Whether the list does not permit the method of any parameter.

@@ -2,9 +2,9 @@ pub mod Answers
 pub mod Scans
 pub mod Parts
 pub mod Cases
-pub mod Nexts
+pub mod NextLaws
 pub mod AllBits
-pub mod Methods
+pub mod MethodLaws
 pub mod Readings
 pub mod Findings
 pub mod Verdicts

@@ -12,7 +12,7 @@ use Rattle.rules.specs.Reason.{submission, command_at, by_map}
 use Rattle.rules.specs.Judging.{setting_of}
 use Rattle.rules.specs.Reasons.{GoesTo, increasing, non_increasing, long, NoneWraps}
 use Rattle.rules.proofs.Parts.{mark_within}
-use Rattle.rules.proofs.Methods.{wraps_plain}
+use Rattle.rules.proofs.MethodLaws.{wraps_plain}
 use Rattle.rules.proofs.Table.{passed}
 use Rattle.rules.proofs.Cases.{quiet}
 use Rattle.rules.proofs.Clean.{clean}

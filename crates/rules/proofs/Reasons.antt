@@ -38,9 +38,9 @@ use Rattle.rules.specs.declared.judging.Verdict.TheVariants.{Accepted, Rejected}
 use Rattle.rules.proofs.Answers.{told_rejected, number_kept, values_kept, told_refused, finding_tells, none_tells}
 use Rattle.rules.proofs.Scans.{found_plain}
 use Rattle.rules.proofs.Parts.{permits_plain}
-use Rattle.rules.proofs.Methods.{goes_to, goes_only, wraps_plain}
+use Rattle.rules.proofs.MethodLaws.{goes_to, goes_only, wraps_plain}
 use Rattle.rules.proofs.Cases.{none_own, arrived, quiet}
-use Rattle.rules.proofs.Nexts.{nexts_plain, gives}
+use Rattle.rules.proofs.NextLaws.{nexts_plain, gives}
 use Rattle.rules.proofs.Clean.{numbered, none_wide, mark_none, one_of_three}
 use Rattle.rules.proofs.Promises.{judged_fits, judged_is}
 

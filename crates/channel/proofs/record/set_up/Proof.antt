@@ -7,16 +7,16 @@ use Rattle.channel.proofs.record.set_up.Statement.{statement}
 use Rattle.channel.proofs.record.set_up.Tie as tie
 
 -- the check of the setting has been passed
-fine : (c : tie.After-enum-told2) → check_of c.before.before.before.before.args.setup.setting ≡ Fine
-fine c = sym c.before.before.check.ensures ∙ c.enum-told2.given.1
+fine : (c : tie.In_default) → check_of c.args.setup.setting ≡ Fine
+fine c = sym c.check-check.ensures ∙ c.in_default.is
 
-pub set-up-spec : {M : Type 1} → statement M
-set-up-spec =
+pub set_up_spec : {M : Type 1} → statement M
+set_up_spec =
     tie.close
     (tie.spec
     (λ c κs. search rules)
     (λ c. search rules)
-    (λ c. sym (setting_refused _ _ (sym c.before.before.check.ensures ∙ c.enum_told.given.1)))
+    (λ c. sym (setting_refused _ _ (sym c.check-check.ensures ∙ c.in-Refused.is)))
     (λ c. search rules)
-    (λ c. ib_order _ (fine c.before.before.before.before) c.before.if1.true)
-    (λ c. no_order _ (fine c.before.before.before.before) c.before.if1.false))
+    (λ c. ib_order _ (fine c.before.before.before.before) c.if-setting.true)
+    (λ c. no_order _ (fine c.before.before.before.before) c.if-setting.false))

@@ -7,25 +7,22 @@ use Rattle.channel.proofs.stepping.act.Statement.{statement}
 use Rattle.channel.proofs.stepping.act.Tie as tie
 
 -- no error has stopped it
-runs : (c : tie.Else1) → let a = c.before.before.before.before.before.before.args in is_stopped a.pusher a.puller ≡ false
-runs c = sym c.before.stopped.ensures ∙ c.if1.false
+runs : (c : tie.Else-stopped) → let a = c.args in is_stopped a.pusher a.puller ≡ false
+runs c = sym c.stopped.ensures ∙ c.if-stopped.false
 
-pub act-spec : {M : Type 1} → statement M
+pub act_spec : {M : Type 1} → statement M
 unfolding act
-act-spec =
+act_spec =
     tie.close
     (tie.spec
     (λ c κs. search rules)
-    (λ c. rw (when_stopped _ _ (sym c.before.stopped.ensures ∙ c.if1.true)) (record { answer = refl; memory = refl }))
+    (λ c. rw (when_stopped _ _ (sym c.stopped.ensures ∙ c.if-stopped.true)) (record { answer = refl; memory = refl }))
     (λ c κs. search rules)
     (λ c. search rules)
     (λ c.
-    let waits = c.before.before in
-    rw (when_waiting _ _ (runs waits.before) waits.if2.true) (record { answer = c.wait.ensures; memory = refl }))
+    rw (when_waiting _ _ (runs c.before.before.before) c.if-puller.true) (record { answer = c.wait.ensures; memory = refl }))
     (λ c κs. search rules)
     (λ c κs. search rules)
     (λ c. search rules)
     (λ c.
-    let pushed = c.before.before.before.before in
-    let free = pushed.before in
-    rw (when_free _ _ (runs free.before) free.if2.false, ← pushed.push.ensures) c.before.before.finish.ensures))
+    rw (when_free _ _ (runs c.before.before.before.before.before.before.before) c.if-puller.false, ← c.push-pushed.ensures) c.finish.ensures))

@@ -10,39 +10,33 @@ use Rattle.gate.proofs.judging.whole_verdict.Tie as tie
 
 -- where neither the bytes nor the start speak against it, the verdict is that of the first refused pair
 by_pair :
-    (c : tie.After-first-refused) {v : Verdict}
-    → v ≡ pair_verdict c.first_refused_lem.result
-    → let a = c.before.before.before.before.before.before.before.before.before.before.args in
+    (c : tie.After-first_refused-first) {v : Verdict}
+    → v ≡ pair_verdict c.first_refused-first.result
+    → let a = c.args in
     v ≡ verdict_of (submission a.setting a.words.now a.permit.now) a.map.now
 by_pair c e =
-    let start = c.before.before.before in
-    let told = start.before in
-    let bytes = told.before.before in
-    pairs_stand _ _ bytes.before.before.before.before.requires.0 bytes.bytes-verdict.ensures told.enum_told.given.1 start.start-verdict.ensures c.before.enum-told2.given.1
-    (rw c.first_refused_lem.ensures at e)
+    pairs_stand _ _ c.requires.0 c.bytes_verdict-bytes.ensures c.in-Accepted.is c.start_verdict-start.ensures c.in-Accepted-start.is
+    (rw c.first_refused-first.ensures at e)
 
-pub whole-verdict-spec : {M : Type 1} → statement M
+pub whole_verdict_spec : {M : Type 1} → statement M
 unfolding pair_verdict
-whole-verdict-spec =
+whole_verdict_spec =
     tie.close
     (tie.spec
     (λ c κs. search rules)
     (λ c. search rules)
-    (λ c. bytes_stand _ _ c.before.before.before.before.before.requires.0 c.before.bytes-verdict.ensures c.match.keys2)
+    (λ c. bytes_stand _ _ c.requires.0 c.bytes_verdict-bytes.ensures c.in_default.in_default-own.keys2)
     (λ c κs. search rules)
     (λ c. search rules)
     (λ c.
-    let told = c.before.before in
-    let bytes = told.before.before in
-    start_stands _ _ bytes.before.before.before.before.requires.0 bytes.bytes-verdict.ensures told.enum_told.given.1 c.before.start-verdict.ensures c.match2.keys2)
+    start_stands _ _ c.requires.0 c.bytes_verdict-bytes.ensures c.in-Accepted.is c.start_verdict-start.ensures c.in_default-start.in_default-start-own.keys2)
     (λ c κs. search rules)
     (λ c. search rules)
     (λ c. search rules)
-    (λ c. by_pair c.before.before (rw c.enum-told3.given.1))
+    (λ c. by_pair c.before (rw c.in_default-first.is))
     (λ c.
     let at = c.before.before in
-    let first = at.before.before in
-    let start = first.before.before.before.before.before.before.before.before.before.before in
-    let a = start.args in
-    omega (arith, start.requires.0, start.requires.1, refused_within (submission a.setting a.words.now a.permit.now) a.map.now (rw first.first_refused_lem.ensures at at.first.given.1)))
-    (λ c. let at = c.before.before in by_pair at.before.before (rw at.first.given.1)))
+    let first = at.before in
+    let a = c.args in
+    omega (arith, c.requires.0, c.requires.1, refused_within (submission a.setting a.words.now a.permit.now) a.map.now (rw c.first_refused-first.ensures at c.in-At.is)))
+    (λ c. let at = c.before.before in by_pair c.before.before (rw c.in-At.is)))

@@ -12,31 +12,26 @@ use Rattle.gate.proofs.reason.next_reason.Statement.{statement}
 use Rattle.gate.proofs.reason.next_reason.Tie as tie
 
 -- whether the map lacks a pair's mark, and how many words there are
-module _ (c : tie.After-struct-known) where
+module _ (c : tie.After-struct_known-1) where
   abbrev lacks : Pair → Bool
-  lacks = unmarked c.before.before.before.args.map.now
+  lacks = unmarked c.args.map.now
 
-  many : length (words_of c.before.before.before.args.words.now) ≡ length c.before.before.before.args.words.now / 4
-  many = words_length c.before.before.before.args.words.now
+  many : length (words_of c.args.words.now) ≡ length c.args.words.now / 4
+  many = words_length c.args.words.now
 
-pub next-reason-spec : {M : Type 1} → statement M
-next-reason-spec =
+pub next_reason_spec : {M : Type 1} → statement M
+next_reason_spec =
     tie.close
     (tie.spec
     (λ c κs. search rules)
-    (λ c qs is l. let start = c.before.before in rw (many start) (one_next (lacks start) _ qs is c.before.if1.true c.arrival-by.ensures))
-    (λ c qs is l. no_next (lacks c.before.before.before) _ qs is c.if2.true)
+    (λ c qs is l. rw (many c.before.before.before) (one_next (lacks c.before.before.before) _ qs is c.if-next-eq1.true c.arrival_by.ensures))
+    (λ c qs is l. no_next (lacks c.before.before.before) _ qs is c.if-next-eq0.true)
     (λ c κs. search rules)
     (λ c. search rules)
     (λ c qs is l.
-    let at = c.before.before in
-    let start = at.before.before.before.before in
-    rw (many start) (against_first (lacks start) _ qs is at.before.if2.false at.arrival-by2.ensures c.enum_told.given.1))
+    rw (many c.before.before.before.before.before.before) (against_first (lacks c.before.before.before.before.before.before) _ qs is c.if-next-eq0.false c.arrival_by-first.ensures c.in-Against.is))
     (λ c. search rules)
     (λ c κs. search rules)
     (λ c qs is l.
-    let told = c.before in
-    let at = told.before.before in
-    let start = at.before.before.before.before in
-    rw (many start)
-    (then_second (lacks start) _ qs is l at.before.before.before.if1.false at.before.if2.false at.arrival-by2.ensures told.enum-told2.given.1 c.arrival-by3.ensures)))
+    rw (many c.before.before.before.before.before.before.before.before)
+    (then_second (lacks c.before.before.before.before.before.before.before.before) _ qs is l c.if-next-eq1.false c.if-next-eq0.false c.arrival_by-first.ensures c.in_default.is c.arrival_by-2.ensures)))

@@ -7,7 +7,7 @@ use Rattle.word.specs.First.{Case, ◌when◌}
 use Rattle.rules.specs.Next.{nexts, held}
 use Rattle.rules.specs.Reason.{MARKED_PARAMETER, submission, size, own_cases, next_cases}
 use Rattle.rules.proofs.Findings.{found_first, found_later, found_past}
-use Rattle.rules.proofs.Nexts.{at_most_two}
+use Rattle.rules.proofs.NextLaws.{at_most_two}
 use Rattle.search.proofs.flaw.flaw.Statement.{statement}
 use Rattle.search.proofs.flaw.flaw.Tie as tie
 

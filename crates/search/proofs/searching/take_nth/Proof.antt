@@ -11,7 +11,7 @@ use Rattle.rules.specs.Next.{nexts}
 use Rattle.rules.specs.Reason.{Submission, submission, size, command_at, no_map, command_cases, finding_of}
 use Rattle.rules.specs.Judging.{place_of, state_of}
 use Rattle.rules.specs.Search.{Found, ◌found_from◌, find_each}
-use Rattle.rules.proofs.Nexts.{at_most_two}
+use Rattle.rules.proofs.NextLaws.{at_most_two}
 use Rattle.rules.proofs.ExactMap.{counts_most}
 use Rattle.search.specs.Room.{Holds}
 use Rattle.search.proofs.Rooms.{pair_at}

@@ -9,8 +9,8 @@ use Rattle.channel.proofs.record.Channel.idle.Statement.{statement}
 use Rattle.channel.proofs.record.Channel.idle.Tie as tie
 
 -- no error has stopped it
-runs : (c : tie.Else1) → let a = c.before.before.args.self in is_stopped a.pusher a.puller ≡ false
-runs c = sym c.before.stopped.ensures ∙ c.if1.false
+runs : (c : tie.Else-stopped) → let a = c.args.self in is_stopped a.pusher a.puller ≡ false
+runs c = sym c.stopped.ensures ∙ c.if-stopped.false
 
 pub idle_spec : {M : Type 1} → statement M
 unfolding idles
@@ -18,16 +18,11 @@ idle_spec =
     tie.close
     (tie.spec
     (λ c κs. search rules)
-    (λ c. rw (sym c.before.stopped.ensures ∙ c.if1.true))
-    (λ c. rw (runs c.before, c.if2.true))
+    (λ c. rw (sym c.stopped.ensures ∙ c.if-stopped.true))
+    (λ c. rw (runs c.before, c.if-self.true))
     (λ c.
-    let two = c.before.before in
-    rw (runs two.before, two.if2.false, ne_eqb _ _ c.if3.true))
+    rw (runs c.before.before.before, c.if-self.false, ne_eqb _ _ c.if-self-2.true))
     (λ c.
-    let three = c.before.before.before.before in
-    let two = three.before.before in
-    rw (runs two.before, two.if2.false, eq-eqb _ _ three.if3.false, choose_true (eq-eqb _ _ c.before.if4.true)))
+    rw (runs c.before.before.before.before.before.before.before, c.if-self.false, eq-eqb _ _ c.if-self-2.false, choose_true (eq-eqb _ _ c.if-self-3.true)))
     (λ c.
-    let three = c.before.before.before in
-    let two = three.before.before in
-    rw (runs two.before, two.if2.false, eq-eqb _ _ three.if3.false, choose_false (ne_eqb _ _ c.if4.false))))
+    rw (runs c.before.before.before.before.before.before, c.if-self.false, eq-eqb _ _ c.if-self-2.false, choose_false (ne_eqb _ _ c.if-self-3.false))))

@@ -14,11 +14,11 @@ use Rattle.channel.proofs.record.Channel.no_put.Tie as tie
 fits : (c : tie.Start) → setup_fits c.args.self.setup ≡ true
 fits c = set_up_fits c.args.self c.requires
 
-pub no-put-spec : {M : Type 1} → statement M
+pub no_put_spec : {M : Type 1} → statement M
 unfolding put_refused
-no-put-spec =
+no_put_spec =
     tie.close
     (tie.spec
     (λ c. omega (arith, order_most _ (fits c.before.before.before.before)))
-    (λ c. rw (power _ (fits c.before.before.before.before)) (sym (choose_true (eq-eqb _ _ c.before.if1.true) _ _)))
-    (λ c. sym (choose_false (ne_eqb _ _ c.if1.false) _ _)))
+    (λ c. rw (power _ (fits c.before.before.before.before)) (sym (choose_true (eq-eqb _ _ c.if-self.true) _ _)))
+    (λ c. sym (choose_false (ne_eqb _ _ c.if-self.false) _ _)))

@@ -13,25 +13,22 @@ use Rattle.channel.proofs.record.Channel.open.Statement.{statement}
 use Rattle.channel.proofs.record.Channel.open.Tie as tie
 
 -- what the tests have shown, where they have been passed
-fine : (c : tie.After-enum-told) → let a = c.before.before.before.before.args in check_of (setting_at a.level a.mode false) ≡ Fine
-fine c = sym c.before.before.check.ensures ∙ c.enum_told.given.1
+fine : (c : tie.In_default) → let a = c.args in check_of (setting_at a.level a.mode false) ≡ Fine
+fine c = sym c.check-check.ensures ∙ c.in_default.is
 
-ordered : (c : tie.Else1) → let a = c.before.before.before.before.before.before.args in order_refused a.mode a.order ≡ false
-ordered c = sym c.before.no_order.ensures ∙ c.if1.false
+ordered : (c : tie.Else-no_order) → let a = c.args in order_refused a.mode a.order ≡ false
+ordered c = sym c.no_order.ensures ∙ c.if-no_order.false
 
-whole : (c : tie.After-enum-told2) → let a = c.before.before.before.before.before.before.before.before.before.args in check_of (setting_at a.level a.mode a.sli) ≡ Fine
-whole c = sym c.before.before.check3.ensures ∙ c.enum-told2.given.1
+whole : (c : tie.In_default-check) → let a = c.args in check_of (setting_at a.level a.mode a.sli) ≡ Fine
+whole c = sym c.check-check-2.ensures ∙ c.in_default-check.is
 
 passed :
-    {r : Repeat} (c : tie.Else3)
-    → let a = c.before.before.before.before.before.before.before.before.before.before.before.before.args in
+    {r : Repeat} (c : tie.Else-no_table)
+    → let a = c.args in
     repeat_of a.table.now ≡ r
     → opening_of a.level a.mode a.order a.sli a.mask a.table.now ≡ duplicate_or r
 passed c e =
-    let three = c.before.before in
-    let two = three.before in
-    let one = two.before.before.before in
-    by_repeat _ _ _ _ _ _ (fine one.before.before) (ordered one) (whole two) (le-ltb _ _ three.if2.false) (sym c.before.no_table.ensures ∙ c.if3.false) e
+    by_repeat _ _ _ _ _ _ (fine c.before.before.before.before.before.before.before) (ordered c.before.before.before.before.before) (whole c.before.before.before) (le-ltb _ _ c.if-mask-gt4095.false) (sym c.no_table.ensures ∙ c.if-no_table.false) e
 
 pub open_spec : {M : Type 1} → statement M
 unfolding opened duplicate_or
@@ -43,49 +40,46 @@ open_spec =
     (λ c κs. search rules)
     (λ c.
     let told = c.before.before in
-    c.refused.ensures ∙ sym (answers _ _ _ _ _ _ _ (by_setting _ _ _ _ _ _ _ (sym told.before.before.check.ensures ∙ told.check2.given.1))))
+    c.refused.ensures ∙ sym (answers _ _ _ _ _ _ _ (by_setting _ _ _ _ _ _ _ (sym c.check-check.ensures ∙ c.in-Refused.is))))
     (λ c. search rules)
     (λ c κs. search rules)
     (λ c κs. search rules)
     (λ c.
     let told = c.before.before.before in
-    c.refused2.ensures ∙ sym (answers _ _ _ _ _ _ _ (by_order _ _ _ _ _ _ (fine told) (sym c.before.before.no_order.ensures ∙ c.before.if1.true))))
+    c.refused-then-no_order.ensures ∙ sym (answers _ _ _ _ _ _ _ (by_order _ _ _ _ _ _ (fine c.before.before.before) (sym c.no_order.ensures ∙ c.if-no_order.true))))
     (λ c κs. search rules)
     (λ c. search rules)
     (λ c κs. search rules)
     (λ c.
     let told = c.before.before in
-    let one = told.before.before.before in
-    c.refused3.ensures
-    ∙ sym (answers _ _ _ _ _ _ _ (by_sli _ _ _ _ _ _ (fine one.before.before) (ordered one) _ (sym told.before.before.check3.ensures ∙ told.check4.given.1))))
+    c.refused-in-Refused-check.ensures
+    ∙ sym (answers _ _ _ _ _ _ _ (by_sli _ _ _ _ _ _ (fine c.before.before.before.before.before) (ordered c.before.before.before) _ (sym c.check-check-2.ensures ∙ c.in-Refused-check.is))))
     (λ c. search rules)
     (λ c κs. search rules)
     (λ c.
     let two = c.before.before in
-    let one = two.before.before.before in
-    c.refused4.ensures
-    ∙ sym (answers _ _ _ _ _ _ _ (by_mask _ _ _ _ _ _ (fine one.before.before) (ordered one) (whole two) (lt-ltb _ _ c.before.if2.true))))
+    c.refused-then-mask-gt4095.ensures
+    ∙ sym (answers _ _ _ _ _ _ _ (by_mask _ _ _ _ _ _ (fine c.before.before.before.before.before.before) (ordered c.before.before.before.before) (whole c.before.before) (lt-ltb _ _ c.if-mask-gt4095.true))))
     (λ c κs. search rules)
     (λ c κs. search rules)
     (λ c.
     let three = c.before.before.before in
     let two = three.before in
-    let one = two.before.before.before in
-    c.refused5.ensures
+    c.refused-then-no_table.ensures
     ∙ sym
     (answers _ _ _ _ _ _ _
-    (by_table _ _ _ _ _ _ (fine one.before.before) (ordered one) (whole two) (le-ltb _ _ three.if2.false) (sym c.before.before.no_table.ensures ∙ c.before.if3.true))))
+    (by_table _ _ _ _ _ _ (fine c.before.before.before.before.before.before.before.before) (ordered c.before.before.before.before.before.before) (whole c.before.before.before.before) (le-ltb _ _ c.if-mask-gt4095.false) (sym c.no_table.ensures ∙ c.if-no_table.true))))
     (λ c κs. search rules)
     (λ c. search rules)
     (λ c κs. search rules)
     (λ c.
     let told = c.before.before in
     rw c.blank.ensures
-    (sym (answers _ _ _ _ _ _ _ (passed told.before.before.before (sym told.before.before.first_repeat.ensures ∙ told.repeat.given.1)))))
+    (sym (answers _ _ _ _ _ _ _ (passed c.before.before.before (sym c.first_repeat-repeat.ensures ∙ c.in-Entry.is)))))
     (λ c. search rules)
     (λ c κs. search rules)
     (λ c κs. search rules)
     (λ c.
     let told = c.before.before in
-    rw (c.resting.ensures, c.before.held.ensures)
-    (sym (answers _ _ _ _ _ _ _ (passed told.before.before.before (sym told.before.before.first_repeat.ensures ∙ told.enum-told3.given.1))))))
+    rw (c.resting.ensures, c.held.ensures)
+    (sym (answers _ _ _ _ _ _ _ (passed c.before.before.before.before (sym c.first_repeat-repeat.ensures ∙ c.in_default-repeat.is))))))
