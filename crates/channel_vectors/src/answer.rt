@@ -1,6 +1,6 @@
 // An answer as six words, those that it lacks 0: the refusal's number, the event's kind, whether it
 // has a method, and the method's three. Of an opening the second is the repeated entry.
-use crate::input::next_word;
+use crate::input::{Input, next_word};
 use channel::{Answer, Opening};
 use event::{Event, Kind, Method};
 use word::{Check, Refusal};
@@ -69,15 +69,15 @@ fn of(kind: Kind, method: Method) -> [u32; 6] {
 }
 
 // The model's answer to a step: a word of refusal, kind and whether a method follows, and the method.
-pub(crate) fn next_answer() -> [u32; 6] {
-    let word = next_word();
+pub(crate) fn next_answer(input: &mut Input<'_>) -> [u32; 6] {
+    let word = next_word(input);
     let method = word / 0x1_0000;
     if method == 0 {
         return [word % 0x100, word / 0x100, 0, 0, 0, 0];
     }
-    let subchannel = next_word();
-    let byte = next_word();
-    let parameter = next_word();
+    let subchannel = next_word(input);
+    let byte = next_word(input);
+    let parameter = next_word(input);
     [
         word % 0x100,
         word / 0x100 % 0x100,

@@ -1,20 +1,19 @@
 // The associated constants of the errors have the numbers of docs/CARD.md (S26, P23): the check proves each
 // line.
-use check::expect;
 use puller::PullerError;
 use pusher::PusherError;
 
 pub(crate) fn constants() {
-    expect(PusherError::CALL == 1);
-    expect(PusherError::NON_CACHE == 2);
-    expect(PusherError::RETURN == 3);
-    expect(PusherError::RESERVED_CMD == 4);
-    expect(PusherError::IB == 5);
-    expect(PusherError::PROTECTION == 6);
-    expect(PullerError::NO_HASH == 1);
-    expect(PullerError::EMPTY_SUBCHANNEL == 2);
-    expect(PullerError::SEMAPHORE_1 == 3);
-    expect(PullerError::SEMAPHORE_2 == 4);
-    expect(PullerError::SEMAPHORE_3 == 5);
-    expect(PullerError::SEMAPHORE_4 == 6);
+    prove!(PusherError::CALL == 1);
+    prove!(PusherError::NON_CACHE == 2);
+    prove!(PusherError::RETURN == 3);
+    prove!(PusherError::RESERVED_CMD == 4);
+    prove!(PusherError::IB == 5);
+    prove!(PusherError::PROTECTION == 6);
+    prove!(PullerError::NO_HASH == 1);
+    prove!(PullerError::EMPTY_SUBCHANNEL == 2);
+    prove!(PullerError::SEMAPHORE_1 == 3);
+    prove!(PullerError::SEMAPHORE_2 == 4);
+    prove!(PullerError::SEMAPHORE_3 == 5);
+    prove!(PullerError::SEMAPHORE_4 == 6);
 }

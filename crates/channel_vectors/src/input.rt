@@ -1,15 +1,20 @@
 // The words on standard input.
 ghost use Rattle.std.specs.Prelude.{◌<◌, ◌≤◌};
 
-use libc::STDIN_FILENO;
+// What is left of standard input.
+#[derive(Drop)]
+pub(crate) struct Input<'a> {
+    pub(crate) rest: &'a [u8],
+}
 
 // The next word; 0 where the input ends.
-pub(crate) fn next_word() -> u32 {
-    let mut four = [0u8; 4];
-    let got = io::read_full(STDIN_FILENO, &mut four);
-    if got < 4 {
+pub(crate) fn next_word(input: &mut Input<'_>) -> u32 {
+    let four = input.rest;
+    if four.len() < 4 {
+        input.rest = &[];
         return 0;
     }
+    input.rest = &four[4..];
     word_of(four[0], four[1], four[2], four[3])
 }
 
@@ -25,9 +30,9 @@ fn wide(byte: u8) -> u32
 }
 
 // The next two words as one number, the lower half first.
-pub(crate) fn next_pair() -> u64 {
-    let low = next_word();
-    let high = next_word();
+pub(crate) fn next_pair(input: &mut Input<'_>) -> u64 {
+    let low = next_word(input);
+    let high = next_word(input);
     pair_of(low, high)
 }
 
@@ -36,9 +41,9 @@ pub(crate) fn pair_of(low: u32, high: u32) -> u64 {
 }
 
 // The next number, or `most` where it is more: a damaged count ends sooner than its loop would.
-pub(crate) fn next_up_to(most: usize) -> usize
+pub(crate) fn next_up_to(input: &mut Input<'_>, most: usize) -> usize
     ensures { result ≤ most }
 {
-    let n = next_word() as usize;
+    let n = next_word(input) as usize;
     if n < most { n } else { most }
 }

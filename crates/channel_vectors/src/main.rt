@@ -19,9 +19,10 @@ mod state;
 mod verdict;
 
 use difference::{Difference, NOTHING, same, unknown};
-use input::next_word;
-use libc::STDOUT_FILENO;
+use input::{Input, next_word};
 use pool::{MOST_GIVEN, TABLE_WORDS};
+use std::io;
+use std::io::Read;
 use verdict::{Verdict, alone, sum};
 
 // One word more than may be lent, so that SIZE is tried.
@@ -48,53 +49,62 @@ struct Tally {
     difference: Difference,
 }
 
-fn main() {
+fn main(rt: HostRuntime) -> io::Result<()> {
     constant::constants();
-    let tally = tallied_in([0u32; MOST_GIVEN], [0u32; LARGE_WORDS], [0u32; TABLE_WORDS]);
-    line(b"open ", tally.open);
-    line(b"run ", tally.run);
-    line(b"step ", tally.step);
-    line(b"single ", tally.single);
-    line(b"put ", tally.put);
-    line(b"unknown ", tally.unknown);
-    line(b"wrong ", tally.wrong);
-    line(b"first wrong ", tally.first);
+    let mut bytes = Vec::new(rt.alloc());
+    rt.stdin().read_to_end(&mut bytes)?;
+    let small = vec![in rt.alloc(); 0u32; MOST_GIVEN]?;
+    let large = vec![in rt.alloc(); 0u32; LARGE_WORDS]?;
+    let table = vec![in rt.alloc(); 0u32; TABLE_WORDS]?;
+    let tally = tallied_in(&mut Input { rest: &bytes }, small, large, table);
+    line(&rt, "open ", tally.open)?;
+    line(&rt, "run ", tally.run)?;
+    line(&rt, "step ", tally.step)?;
+    line(&rt, "single ", tally.single)?;
+    line(&rt, "put ", tally.put)?;
+    line(&rt, "unknown ", tally.unknown)?;
+    line(&rt, "wrong ", tally.wrong)?;
+    line(&rt, "first wrong ", tally.first)?;
     if 0 < tally.wrong {
         let difference = tally.difference;
-        show(tally.operation, difference);
+        show(&rt, tally.operation, difference)?;
     }
+    Ok(())
 }
 
 // What differs first: in which operation of a run, where, and how.
-fn show(operation: u32, difference: Difference) {
-    line(b"  operation ", operation);
+fn show(rt: &impl Print, operation: u32, difference: Difference) -> io::Result<()> {
+    line(rt, "  operation ", operation)?;
     let part = difference.part;
     match part {
-        1 => line(b"  answer's word ", difference.place),
-        2 => line(b"  channel's word ", difference.place),
-        3 => line(b"  semaphore word ", difference.place),
-        _ => line(b"  no such kind ", difference.got),
+        1 => line(rt, "  answer's word ", difference.place)?,
+        2 => line(rt, "  channel's word ", difference.place)?,
+        3 => line(rt, "  semaphore word ", difference.place)?,
+        _ => line(rt, "  no such kind ", difference.got)?,
     }
-    line(b"  wanted ", difference.wanted);
-    line(b"  got ", difference.got);
+    line(rt, "  wanted ", difference.wanted)?;
+    line(rt, "  got ", difference.got)
 }
 
-fn line(name: &[u8], n: u32) {
-    io::write_all(STDOUT_FILENO, name);
-    io::print_decimal(STDOUT_FILENO, n as u64);
-    io::write_all(STDOUT_FILENO, b"\n");
+fn line(rt: &impl Print, name: &str, n: u32) -> io::Result<()> {
+    println!(rt; "{name}{n}")
 }
 
-// The arrays are lent from parameters: of one made here, the checker would count the words one by one.
 fn tallied_in(
-    mut small: [u32; MOST_GIVEN],
-    mut large: [u32; LARGE_WORDS],
-    mut table: [u32; TABLE_WORDS],
+    input: &mut Input<'_>,
+    mut small: Vec<u32>,
+    mut large: Vec<u32>,
+    mut table: Vec<u32>,
 ) -> Tally {
-    tallied(&mut small, &mut large, &mut table)
+    tallied(input, &mut small, &mut large, &mut table)
 }
 
-fn tallied(small: &mut [u32], large: &mut [u32], table: &mut [u32]) -> Tally {
+fn tallied(
+    input: &mut Input<'_>,
+    small: &mut [u32],
+    large: &mut [u32],
+    table: &mut [u32],
+) -> Tally {
     let mut tally = Tally {
         over: false,
         records: 0,
@@ -110,7 +120,7 @@ fn tallied(small: &mut [u32], large: &mut [u32], table: &mut [u32]) -> Tally {
         difference: same(),
     };
     for _ in 0..MOST_RECORDS {
-        tally = next_record(tally, small, large, table);
+        tally = next_record(input, tally, small, large, table);
         if tally.over {
             break;
         }
@@ -118,26 +128,38 @@ fn tallied(small: &mut [u32], large: &mut [u32], table: &mut [u32]) -> Tally {
     tally
 }
 
-fn next_record(tally: Tally, small: &mut [u32], large: &mut [u32], table: &mut [u32]) -> Tally {
-    let kind = next_word();
-    let verdict = verdict_on(kind, small, large, table);
+fn next_record(
+    input: &mut Input<'_>,
+    tally: Tally,
+    small: &mut [u32],
+    large: &mut [u32],
+    table: &mut [u32],
+) -> Tally {
+    let kind = next_word(input);
+    let verdict = verdict_on(input, kind, small, large, table);
     judged(counted(tally, kind), verdict)
 }
 
-fn verdict_on(kind: u32, small: &mut [u32], large: &mut [u32], table: &mut [u32]) -> Verdict {
+fn verdict_on(
+    input: &mut Input<'_>,
+    kind: u32,
+    small: &mut [u32],
+    large: &mut [u32],
+    table: &mut [u32],
+) -> Verdict {
     match kind {
-        2 => run::run(small, table, large),
-        3 => alone(single::single(small, large, table)),
-        _ => alone(unlent(kind, table)),
+        2 => run::run(input, small, table, large),
+        3 => alone(single::single(input, small, large, table)),
+        _ => alone(unlent(input, kind, table)),
     }
 }
 
 // What differs in a record that lends no memory, but for the table of an opening.
-fn unlent(kind: u32, table: &mut [u32]) -> Difference {
+fn unlent(input: &mut Input<'_>, kind: u32, table: &mut [u32]) -> Difference {
     match kind {
         0 => same(),
-        1 => opening::open(table),
-        4 => single::put(),
+        1 => opening::open(input, table),
+        4 => single::put(input),
         _ => unknown(kind),
     }
 }

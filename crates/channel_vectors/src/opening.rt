@@ -1,34 +1,34 @@
 // A record of an opening.
 use crate::answer::repeated;
 use crate::difference::{Difference, answers, channels, first};
-use crate::input::next_word;
+use crate::input::{Input, next_word};
 use crate::outcome::{Asked, Outcome, opened};
 use crate::pool::load_table;
 use crate::state::next_channel;
 
-pub(crate) fn next_asked() -> Asked {
+pub(crate) fn next_asked(input: &mut Input<'_>) -> Asked {
     Asked {
-        level: next_word(),
-        mode: next_word(),
-        order: next_word(),
-        sli: next_word() != 0,
-        mask: next_word(),
-        limit: next_word(),
+        level: next_word(input),
+        mode: next_word(input),
+        order: next_word(input),
+        sli: next_word(input) != 0,
+        mask: next_word(input),
+        limit: next_word(input),
     }
 }
 
-pub(crate) fn open(table: &mut [u32]) -> Difference {
-    let asked = next_asked();
-    let lent = next_word() as usize;
-    load_table(table);
-    open_held(opened(asked, table, lent))
+pub(crate) fn open(input: &mut Input<'_>, table: &mut [u32]) -> Difference {
+    let asked = next_asked(input);
+    let lent = next_word(input) as usize;
+    load_table(input, table);
+    open_held(input, opened(asked, table, lent))
 }
 
-fn open_held(outcome: Outcome) -> Difference {
+fn open_held(input: &mut Input<'_>, outcome: Outcome) -> Difference {
     let answer = outcome.answer;
     let channel = outcome.channel;
-    let refusal = next_word();
-    let entry = next_word();
+    let refusal = next_word(input);
+    let entry = next_word(input);
     let answer = answers(repeated(refusal, entry), answer);
-    first(answer, channels(next_channel(), channel))
+    first(answer, channels(next_channel(input), channel))
 }

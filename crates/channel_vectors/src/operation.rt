@@ -1,7 +1,7 @@
 // What is done with a channel, held to the model's answer: that comes next on standard input.
 use crate::answer::{next_answer, refused};
 use crate::difference::{Difference, answers, far, first, same, unknown};
-use crate::input::{next_pair, next_word};
+use crate::input::{Input, next_pair, next_word};
 use crate::outcome::{Outcome, put_set, stepped};
 use crate::pair::{Pair, channel_held, next_deltas, with_channel, with_semaphore};
 use crate::pool::{Lent, MOST_ENTRIES, MOST_GIVEN, put};
@@ -23,23 +23,25 @@ pub struct Done {
 
 // The next operation of a run.
 pub(crate) fn next_operation(
+    input: &mut Input<'_>,
     pair: Pair,
     words: &[u32],
     entries: [u64; MOST_ENTRIES],
     table: &[u32],
     semaphores: &mut [u32],
 ) -> Done {
-    let header = next_word();
+    let header = next_word(input);
     let number = header % 0x100;
     if number == PUT {
-        return set(pair, next_word(), header);
+        let put = next_word(input);
+        return set(input, pair, put, header);
     }
     if number == STORE {
-        return stored(pair, semaphores);
+        return stored(input, pair, semaphores);
     }
     if number == STEP {
-        let lent = next_lent();
-        return step(pair, header, lent, words, entries, table, semaphores);
+        let lent = next_lent(input);
+        return step(input, pair, header, lent, words, entries, table, semaphores);
     }
     Done {
         pair,
@@ -49,17 +51,25 @@ pub(crate) fn next_operation(
 }
 
 // Put is set.
-pub(crate) fn set(pair: Pair, put: u32, header: u32) -> Done {
+pub(crate) fn set(input: &mut Input<'_>, pair: Pair, put: u32, header: u32) -> Done {
     let channel = pair.got;
     let outcome = put_set(channel, put);
-    held(pair, outcome, refused(next_word()), header, 0)
+    let right = refused(next_word(input));
+    held(input, pair, outcome, right, header, 0)
 }
 
 // What came of an operation, held to the model's answer, and to its channel after the words that follow.
-fn held(pair: Pair, outcome: Outcome, right: [u32; 6], header: u32, steps: u32) -> Done {
+fn held(
+    input: &mut Input<'_>,
+    pair: Pair,
+    outcome: Outcome,
+    right: [u32; 6],
+    header: u32,
+    steps: u32,
+) -> Done {
     let answer = outcome.answer;
     let channel = outcome.channel;
-    let pair = next_deltas(with_channel(pair, channel), header / 0x100 % 0x100);
+    let pair = next_deltas(input, with_channel(pair, channel), header / 0x100 % 0x100);
     Done {
         pair,
         steps,
@@ -68,9 +78,9 @@ fn held(pair: Pair, outcome: Outcome, right: [u32; 6], header: u32, steps: u32) 
 }
 
 // The host stores a semaphore word.
-fn stored(pair: Pair, semaphores: &mut [u32]) -> Done {
-    let place = next_word() as usize;
-    let word = next_word();
+fn stored(input: &mut Input<'_>, pair: Pair, semaphores: &mut [u32]) -> Done {
+    let place = next_word(input) as usize;
+    let word = next_word(input);
     put(semaphores, place, word);
     Done {
         pair: with_semaphore(pair, place, word),
@@ -80,18 +90,19 @@ fn stored(pair: Pair, semaphores: &mut [u32]) -> Done {
 }
 
 // How much is lent to a step of a run, in one word; then the clock.
-fn next_lent() -> Lent {
-    let word = next_word() as usize;
+fn next_lent(input: &mut Input<'_>) -> Lent {
+    let word = next_word(input) as usize;
     Lent {
         words: word % 0x100,
         entries: word / 0x100 % 0x100,
         table: word / 0x1_0000 % 0x100,
         semaphores: word / 0x100_0000,
-        clock: next_pair(),
+        clock: next_pair(input),
     }
 }
 
 pub(crate) fn step(
+    input: &mut Input<'_>,
     pair: Pair,
     header: u32,
     lent: Lent,
@@ -102,26 +113,27 @@ pub(crate) fn step(
 ) -> Done {
     let channel = pair.got;
     let outcome = stepped(channel, lent, words, &entries, table, semaphores);
-    let done = held(pair, outcome, next_answer(), header, 1);
-    next_changes(done, semaphores, header / 0x1_0000)
+    let right = next_answer(input);
+    let done = held(input, pair, outcome, right, header, 1);
+    next_changes(input, done, semaphores, header / 0x1_0000)
 }
 
 // The semaphore words that are others now.
-fn next_changes(done: Done, semaphores: &mut [u32], count: u32) -> Done {
+fn next_changes(input: &mut Input<'_>, done: Done, semaphores: &mut [u32], count: u32) -> Done {
     let mut done = done;
     for _ in 0..count {
-        done = next_change(done, semaphores);
+        done = next_change(input, done, semaphores);
     }
     done
 }
 
 // One of the first is the model's, and compared later; one past them here.
-fn next_change(done: Done, semaphores: &mut [u32]) -> Done {
+fn next_change(input: &mut Input<'_>, done: Done, semaphores: &mut [u32]) -> Done {
     let pair = done.pair;
     let difference = done.difference;
     let steps = done.steps;
-    let place = next_word() as usize;
-    let word = next_word();
+    let place = next_word(input) as usize;
+    let word = next_word(input);
     if place < MOST_GIVEN {
         return Done {
             pair: with_semaphore(pair, place, word),

@@ -1,7 +1,7 @@
 // A channel as the library has it and as the model has it, in words, and the model's semaphore words, of
 // which a record can give the first. The model's come from standard input, as changes.
 use crate::difference::{Difference, SEMAPHORE, channels, compared};
-use crate::input::next_word;
+use crate::input::{Input, next_word};
 use crate::layout::CHANNEL_WORDS;
 use crate::pool::{MOST_GIVEN, at};
 
@@ -37,22 +37,22 @@ pub(crate) fn with_channel(pair: Pair, channel: [u32; CHANNEL_WORDS]) -> Pair {
 }
 
 // The words of the model's channel that are others now.
-pub(crate) fn next_deltas(pair: Pair, count: u32) -> Pair {
+pub(crate) fn next_deltas(input: &mut Input<'_>, pair: Pair, count: u32) -> Pair {
     let mut pair = pair;
     for _ in 0..count {
-        pair = next_delta(pair);
+        pair = next_delta(input, pair);
     }
     pair
 }
 
 // A place, and in the same word or the next the word there.
-fn next_delta(pair: Pair) -> Pair {
-    let word = next_word();
+fn next_delta(input: &mut Input<'_>, pair: Pair) -> Pair {
+    let word = next_word(input);
     let place = (word % 0x80) as usize;
     if word / 0x80 % 2 == 0 {
         return with_word(pair, place, word / 0x100);
     }
-    with_word(pair, place, next_word())
+    with_word(pair, place, next_word(input))
 }
 
 fn with_word(pair: Pair, place: usize, word: u32) -> Pair {

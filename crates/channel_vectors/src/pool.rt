@@ -2,7 +2,7 @@
 // gives those at the start.
 ghost use Rattle.std.specs.Prelude.{◌≤◌};
 
-use crate::input::{next_pair, next_up_to, next_word};
+use crate::input::{Input, next_pair, next_up_to, next_word};
 
 // The most words of a pool that a record gives.
 pub const MOST_GIVEN: usize = 64;
@@ -51,11 +51,16 @@ pub(crate) fn put(words: &mut [u32], i: usize, word: u32) {
 }
 
 // Reads what a record gives: the pools are filled, the entries handed on.
-pub(crate) fn load_pools(words: &mut [u32], table: &mut [u32], semaphores: &mut [u32]) -> Given {
-    let count = load_table(table);
-    load(words);
-    let entries = next_entries();
-    load(semaphores);
+pub(crate) fn load_pools(
+    input: &mut Input<'_>,
+    words: &mut [u32],
+    table: &mut [u32],
+    semaphores: &mut [u32],
+) -> Given {
+    let count = load_table(input, table);
+    load(input, words);
+    let entries = next_entries(input);
+    load(input, semaphores);
     Given {
         table: count,
         entries,
@@ -63,27 +68,27 @@ pub(crate) fn load_pools(words: &mut [u32], table: &mut [u32], semaphores: &mut 
 }
 
 // The words of the pushbuffer, or the semaphore words.
-fn load(pool: &mut [u32]) {
-    load_words(pool, MOST_GIVEN, false);
+fn load(input: &mut Input<'_>, pool: &mut [u32]) {
+    load_words(input, pool, MOST_GIVEN, false);
 }
 
-pub(crate) fn load_table(table: &mut [u32]) -> usize {
-    load_words(table, TABLE_WORDS, true)
+pub(crate) fn load_table(input: &mut Input<'_>, table: &mut [u32]) -> usize {
+    load_words(input, table, TABLE_WORDS, true)
 }
 
 // Reads the words that the record gives, and says how many these are. Behind them, where an earlier record
 // may have given some, the pool has its own again.
-fn load_words(pool: &mut [u32], end: usize, table: bool) -> usize {
-    let given = next_up_to(MOST_GIVEN);
+fn load_words(input: &mut Input<'_>, pool: &mut [u32], end: usize, table: bool) -> usize {
+    let given = next_up_to(input, MOST_GIVEN);
     for i in 0..end {
-        put(pool, i, given_or_own(i, given, table));
+        put(pool, i, given_or_own(input, i, given, table));
     }
     given
 }
 
-fn given_or_own(i: usize, given: usize, table: bool) -> u32 {
+fn given_or_own(input: &mut Input<'_>, i: usize, given: usize, table: bool) -> u32 {
     if i < given {
-        return next_word();
+        return next_word(input);
     }
     if table {
         return TABLE_WORD | (i % TABLE_WORDS) as u32;
@@ -92,11 +97,11 @@ fn given_or_own(i: usize, given: usize, table: bool) -> u32 {
 }
 
 // No record lends more entries than it gives.
-fn next_entries() -> [u64; MOST_ENTRIES] {
+fn next_entries(input: &mut Input<'_>) -> [u64; MOST_ENTRIES] {
     let mut entries = [0u64; MOST_ENTRIES];
-    let given = next_up_to(MOST_ENTRIES);
+    let given = next_up_to(input, MOST_ENTRIES);
     for i in 0..given {
-        entries[i] = next_pair();
+        entries[i] = next_pair(input);
     }
     entries
 }

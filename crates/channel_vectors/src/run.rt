@@ -1,6 +1,6 @@
 // A record of a run: a channel is opened, and one operation after the other done with it.
 use crate::difference::{first, same};
-use crate::input::next_up_to;
+use crate::input::{Input, next_up_to};
 use crate::opening::next_asked;
 use crate::operation::next_operation;
 use crate::outcome::opened;
@@ -19,17 +19,23 @@ struct Progress {
 }
 
 // The model's channel starts as the opened one: whether that is right, other records ask.
-pub(crate) fn run(words: &mut [u32], table: &mut [u32], semaphores: &mut [u32]) -> Verdict {
-    let asked = next_asked();
-    let given = load_pools(words, table, semaphores);
+pub(crate) fn run(
+    input: &mut Input<'_>,
+    words: &mut [u32],
+    table: &mut [u32],
+    semaphores: &mut [u32],
+) -> Verdict {
+    let asked = next_asked(input);
+    let given = load_pools(input, words, table, semaphores);
     let entries = given.entries;
     let outcome = opened(asked, table, given.table);
     let channel = outcome.channel;
     let pair = paired(channel, semaphores);
-    operations(pair, words, entries, table, semaphores)
+    operations(input, pair, words, entries, table, semaphores)
 }
 
 fn operations(
+    input: &mut Input<'_>,
     pair: Pair,
     words: &[u32],
     entries: [u64; MOST_ENTRIES],
@@ -40,14 +46,15 @@ fn operations(
         pair,
         verdict: alone(same()),
     };
-    let count = next_up_to(MOST_OPERATIONS);
+    let count = next_up_to(input, MOST_OPERATIONS);
     for _ in 0..count {
-        progress = advanced(progress, words, entries, table, semaphores);
+        progress = advanced(input, progress, words, entries, table, semaphores);
     }
     progress.verdict
 }
 
 fn advanced(
+    input: &mut Input<'_>,
     progress: Progress,
     words: &[u32],
     entries: [u64; MOST_ENTRIES],
@@ -56,7 +63,7 @@ fn advanced(
 ) -> Progress {
     let pair = progress.pair;
     let verdict = progress.verdict;
-    let done = next_operation(pair, words, entries, table, semaphores);
+    let done = next_operation(input, pair, words, entries, table, semaphores);
     let pair = done.pair;
     let difference = done.difference;
     let near = memory_held(pair, semaphores);

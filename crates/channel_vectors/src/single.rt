@@ -1,17 +1,17 @@
 // Records of one operation on a channel that is given, be it well-formed or not.
 use crate::difference::{Difference, far, first, same, unknown};
-use crate::input::{next_pair, next_word};
+use crate::input::{Input, next_pair, next_word};
 use crate::layout::CHANNEL_WORDS;
 use crate::operation::{PUT, STEP, set, step};
 use crate::pair::{Pair, memory_held, paired};
 use crate::pool::{Lent, MOST_ENTRIES, MOST_GIVEN, load_pools, within};
 use crate::state::next_channel;
 
-pub(crate) fn put() -> Difference {
-    let given = next_channel();
-    let put = next_word();
-    let header = next_word();
-    let done = set(paired(given, &[0]), put, header);
+pub(crate) fn put(input: &mut Input<'_>) -> Difference {
+    let given = next_channel(input);
+    let put = next_word(input);
+    let header = next_word(input);
+    let done = set(input, paired(given, &[0]), put, header);
     let difference = done.difference;
     first(of(header, PUT), difference)
 }
@@ -25,37 +25,43 @@ fn of(header: u32, operation: u32) -> Difference {
     unknown(number)
 }
 
-// One step. The stack, of 8 MB, has room for one pool of 1,048,577 words and not for two. So the longer
-// of words and semaphores is lent from the large pool, and the other from the small one: no record
-// lends more than that has of both.
-pub(crate) fn single(small: &mut [u32], large: &mut [u32], table: &mut [u32]) -> Difference {
-    let given = next_channel();
+// One step. One pool has 1,048,577 words. So the longer of words and semaphores is lent from the large
+// pool, and the other from the small one: no record lends more than that has of both.
+pub(crate) fn single(
+    input: &mut Input<'_>,
+    small: &mut [u32],
+    large: &mut [u32],
+    table: &mut [u32],
+) -> Difference {
+    let given = next_channel(input);
     let lent = Lent {
-        words: next_word() as usize,
-        entries: next_word() as usize,
-        table: next_word() as usize,
-        semaphores: next_word() as usize,
-        clock: next_pair(),
+        words: next_word(input) as usize,
+        entries: next_word(input) as usize,
+        table: next_word(input) as usize,
+        semaphores: next_word(input) as usize,
+        clock: next_pair(input),
     };
     if lent.semaphores < lent.words {
-        return single_in(given, lent, large, table, small);
+        return single_in(input, given, lent, large, table, small);
     }
-    single_in(given, lent, small, table, large)
+    single_in(input, given, lent, small, table, large)
 }
 
 fn single_in(
+    input: &mut Input<'_>,
     given: [u32; CHANNEL_WORDS],
     lent: Lent,
     words: &mut [u32],
     table: &mut [u32],
     semaphores: &mut [u32],
 ) -> Difference {
-    let loaded = load_pools(words, table, semaphores);
+    let loaded = load_pools(input, words, table, semaphores);
     let entries = loaded.entries;
-    single_step(given, lent, words, entries, table, semaphores)
+    single_step(input, given, lent, words, entries, table, semaphores)
 }
 
 fn single_step(
+    input: &mut Input<'_>,
     given: [u32; CHANNEL_WORDS],
     lent: Lent,
     words: &[u32],
@@ -64,8 +70,8 @@ fn single_step(
     semaphores: &mut [u32],
 ) -> Difference {
     let pair = paired(given, semaphores);
-    let header = next_word();
-    let done = step(pair, header, lent, words, entries, table, semaphores);
+    let header = next_word(input);
+    let done = step(input, pair, header, lent, words, entries, table, semaphores);
     let pair = done.pair;
     let difference = done.difference;
     let memory = all_held(pair, semaphores, lent.semaphores);

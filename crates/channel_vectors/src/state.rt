@@ -1,5 +1,5 @@
 // A channel and its words, each at its place.
-use crate::input::{next_word, pair_of};
+use crate::input::{Input, next_word, pair_of};
 use crate::layout;
 use crate::layout::CHANNEL_WORDS;
 use channel::Channel;
@@ -8,10 +8,10 @@ use pusher::{Ib, Main, Pusher, PusherError, Run, Setup, Sli, Subroutine};
 use word::{Level, Mode, Setting, Why};
 
 // The next words: a channel's.
-pub(crate) fn next_channel() -> [u32; CHANNEL_WORDS] {
+pub(crate) fn next_channel(input: &mut Input<'_>) -> [u32; CHANNEL_WORDS] {
     let mut words = [0u32; CHANNEL_WORDS];
     for i in 0..CHANNEL_WORDS {
-        words[i] = next_word();
+        words[i] = next_word(input);
     }
     words
 }

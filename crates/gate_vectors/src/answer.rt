@@ -1,5 +1,5 @@
 // Answers: the model's, and the library's.
-use crate::input::next_word;
+use crate::input::{Input, next_word};
 use crate::pool::within;
 use crate::question::Question;
 use gate::{Judgement, Verdict};
@@ -26,13 +26,13 @@ pub(crate) fn answering(reason: u32, refusal: u32, count: u32, place: u32) -> An
 }
 
 // The model's.
-pub(crate) fn next_answer() -> Answer {
+pub(crate) fn next_answer(input: &mut Input<'_>) -> Answer {
     Answer {
-        reason: next_word(),
-        refusal: next_word(),
-        why: next_word(),
-        count: next_word(),
-        place: next_word(),
+        reason: next_word(input),
+        refusal: next_word(input),
+        why: next_word(input),
+        count: next_word(input),
+        place: next_word(input),
     }
 }
 

@@ -14,8 +14,10 @@ mod repairing;
 mod searching;
 
 use answer::Answer;
-use libc::STDOUT_FILENO;
+use input::Input;
 use question::{LARGE_MAP, LARGE_WORDS, MOST_LIST, MOST_PERMIT, MOST_WORK};
+use std::io;
+use std::io::Read;
 
 // More records than a file of vectors has: the run ends with the input.
 const MOST_RECORDS: u32 = 1_000_000;
@@ -39,57 +41,57 @@ struct Tally {
     got: Answer,
 }
 
-fn main() {
+fn main(rt: HostRuntime) -> io::Result<()> {
     constant::constants();
-    let tally = run(
-        [0u8; LARGE_WORDS],
-        [0u8; LARGE_MAP],
-        [0u8; MOST_PERMIT],
-        [0u64; MOST_LIST],
-        [0u64; MOST_WORK],
-    );
-    line(b"judge ", tally.judge);
-    line(b"large ", tally.large);
-    line(b"repair ", tally.repair);
-    line(b"wide ", tally.wide);
-    line(b"search ", tally.search);
-    line(b"read ", tally.read);
-    line(b"unknown ", tally.unknown);
-    line(b"wrong ", tally.wrong);
-    line(b"first wrong ", tally.first);
+    let mut bytes = Vec::new(rt.alloc());
+    rt.stdin().read_to_end(&mut bytes)?;
+    let words = vec![in rt.alloc(); 0u8; LARGE_WORDS]?;
+    let map = vec![in rt.alloc(); 0u8; LARGE_MAP]?;
+    let permit = vec![in rt.alloc(); 0u8; MOST_PERMIT]?;
+    let list = vec![in rt.alloc(); 0u64; MOST_LIST]?;
+    let work = vec![in rt.alloc(); 0u64; MOST_WORK]?;
+    let tally = run(&mut Input { rest: &bytes }, words, map, permit, list, work);
+    line(&rt, "judge ", tally.judge)?;
+    line(&rt, "large ", tally.large)?;
+    line(&rt, "repair ", tally.repair)?;
+    line(&rt, "wide ", tally.wide)?;
+    line(&rt, "search ", tally.search)?;
+    line(&rt, "read ", tally.read)?;
+    line(&rt, "unknown ", tally.unknown)?;
+    line(&rt, "wrong ", tally.wrong)?;
+    line(&rt, "first wrong ", tally.first)?;
     if 0 < tally.wrong {
         let wanted = tally.wanted;
         let got = tally.got;
-        show(wanted, got);
+        show(&rt, wanted, got)?;
     }
+    Ok(())
 }
 
-fn show(wanted: Answer, got: Answer) {
-    line(b"  wanted reason ", wanted.reason);
-    line(b"  wanted refusal ", wanted.refusal);
-    line(b"  wanted why ", wanted.why);
-    line(b"  wanted count ", wanted.count);
-    line(b"  wanted place ", wanted.place);
-    line(b"  got reason ", got.reason);
-    line(b"  got refusal ", got.refusal);
-    line(b"  got why ", got.why);
-    line(b"  got count ", got.count);
-    line(b"  got place ", got.place);
+fn show(rt: &impl Print, wanted: Answer, got: Answer) -> io::Result<()> {
+    line(rt, "  wanted reason ", wanted.reason)?;
+    line(rt, "  wanted refusal ", wanted.refusal)?;
+    line(rt, "  wanted why ", wanted.why)?;
+    line(rt, "  wanted count ", wanted.count)?;
+    line(rt, "  wanted place ", wanted.place)?;
+    line(rt, "  got reason ", got.reason)?;
+    line(rt, "  got refusal ", got.refusal)?;
+    line(rt, "  got why ", got.why)?;
+    line(rt, "  got count ", got.count)?;
+    line(rt, "  got place ", got.place)
 }
 
-fn line(name: &[u8], n: u32) {
-    io::write_all(STDOUT_FILENO, name);
-    io::print_decimal(STDOUT_FILENO, n as u64);
-    io::write_all(STDOUT_FILENO, b"\n");
+fn line(rt: &impl Print, name: &str, n: u32) -> io::Result<()> {
+    println!(rt; "{name}{n}")
 }
 
-// The arrays are parameters: of one made here, the checker would count the bytes one by one.
 fn run(
-    mut words: [u8; LARGE_WORDS],
-    mut map: [u8; LARGE_MAP],
-    mut permit: [u8; MOST_PERMIT],
-    mut list: [u64; MOST_LIST],
-    mut work: [u64; MOST_WORK],
+    input: &mut Input<'_>,
+    mut words: Vec<u8>,
+    mut map: Vec<u8>,
+    mut permit: Vec<u8>,
+    mut list: Vec<u64>,
+    mut work: Vec<u64>,
 ) -> Tally {
     let mut tally = Tally {
         over: false,
@@ -107,7 +109,14 @@ fn run(
         got: answer::answering(0, 0, 0, 0),
     };
     for _ in 0..MOST_RECORDS {
-        let record = next_record(&mut words, &mut map, &mut permit, &mut list, &mut work);
+        let record = next_record(
+            input,
+            &mut words,
+            &mut map,
+            &mut permit,
+            &mut list,
+            &mut work,
+        );
         tally = tallied(tally, record);
         if tally.over {
             break;
@@ -126,18 +135,19 @@ struct Record {
 }
 
 fn next_record(
+    input: &mut Input<'_>,
     words: &mut [u8],
     map: &mut [u8],
     permit: &mut [u8],
     list: &mut [u64],
     work: &mut [u64],
 ) -> Record {
-    let kind = input::next_word();
+    let kind = input::next_word(input);
     match kind {
-        1 | 2 => judged(kind, words, map, permit),
-        3 | 4 => repaired(kind, words, map, permit, list, work),
-        5 => searched(words, permit, work),
-        6 => read(),
+        1 | 2 => judged(input, kind, words, map, permit),
+        3 | 4 => repaired(input, kind, words, map, permit, list, work),
+        5 => searched(input, words, permit, work),
+        6 => read(input),
         _ => over(kind),
     }
 }
@@ -153,10 +163,16 @@ fn over(kind: u32) -> Record {
     compared(0, none, answer::answering(kind, 0, 0, 0))
 }
 
-fn judged(kind: u32, words: &mut [u8], map: &mut [u8], permit: &mut [u8]) -> Record {
-    let question = question::next_question();
-    if question::loaded(kind, question, words, map, permit) {
-        let wanted = answer::next_answer();
+fn judged(
+    input: &mut Input<'_>,
+    kind: u32,
+    words: &mut [u8],
+    map: &mut [u8],
+    permit: &mut [u8],
+) -> Record {
+    let question = question::next_question(input);
+    if question::loaded(input, kind, question, words, map, permit) {
+        let wanted = answer::next_answer(input);
         return compared(
             kind,
             wanted,
@@ -167,6 +183,7 @@ fn judged(kind: u32, words: &mut [u8], map: &mut [u8], permit: &mut [u8]) -> Rec
 }
 
 fn repaired(
+    input: &mut Input<'_>,
     kind: u32,
     words: &mut [u8],
     map: &mut [u8],
@@ -174,31 +191,40 @@ fn repaired(
     list: &mut [u64],
     work: &mut [u64],
 ) -> Record {
-    let asked = question::next_asked(kind);
-    if !question::asked_loaded(kind, asked, words, map, permit) {
+    let asked = question::next_asked(input, kind);
+    if !question::asked_loaded(input, kind, asked, words, map, permit) {
         return over(kind);
     }
     let packed = repairing::repaired(asked, words, map, permit, list, work);
-    let wanted = repairing::next_wanted();
+    let wanted = repairing::next_wanted(input);
     compared(
         kind,
         wanted,
-        repairing::held(kind, packed, asked, map, list, work),
+        repairing::held(input, kind, packed, asked, map, list, work),
     )
 }
 
-fn searched(words: &mut [u8], permit: &mut [u8], room: &mut [u64]) -> Record {
-    let sought = question::next_sought();
-    if !question::search_loaded(sought, words, permit) {
+fn searched(
+    input: &mut Input<'_>,
+    words: &mut [u8],
+    permit: &mut [u8],
+    room: &mut [u64],
+) -> Record {
+    let sought = question::next_sought(input);
+    if !question::search_loaded(input, sought, words, permit) {
         return over(5);
     }
-    let wanted = repairing::next_wanted();
-    compared(5, wanted, searching::searched(sought, words, permit, room))
+    let wanted = repairing::next_wanted(input);
+    compared(
+        5,
+        wanted,
+        searching::searched(input, sought, words, permit, room),
+    )
 }
 
-fn read() -> Record {
-    let got = reading::read();
-    compared(6, reading::next_wanted(), got)
+fn read(input: &mut Input<'_>) -> Record {
+    let got = reading::read(input);
+    compared(6, reading::next_wanted(input), got)
 }
 
 // A record counted, and the library's answer held to the model's.

@@ -1,8 +1,7 @@
 // The pools whose first bytes a record lends.
 ghost use Rattle.std.specs.Prelude.{◌≤◌};
 
-use crate::input::{next_byte, next_word};
-use libc::STDIN_FILENO;
+use crate::input::{Input, next_byte, next_word};
 
 // What is lent of a pool of so many bytes.
 pub(crate) fn within(lent: usize, len: usize) -> usize
@@ -36,16 +35,18 @@ fn put_entry(pool: &mut [u64], i: usize, entry: u64) {
 }
 
 // Reads bytes that a record gives with their places.
-pub(crate) fn load_listed(pool: &mut [u8], count: u32) {
+pub(crate) fn load_listed(input: &mut Input<'_>, pool: &mut [u8], count: u32) {
     for _ in 0..count {
-        let place = next_word() as usize;
-        put(pool, place, next_byte());
+        let place = next_word(input) as usize;
+        put(pool, place, next_byte(input));
     }
 }
 
 // Reads bytes that a record gives as words. What makes the last word whole is read too, and not lent.
-pub(crate) fn load(pool: &mut [u8], count: u32) {
+pub(crate) fn load(input: &mut Input<'_>, pool: &mut [u8], count: u32) {
     let whole = (count as usize + 3) / 4 * 4;
     let end = within(whole, pool.len());
-    io::read_full(STDIN_FILENO, &mut pool[..end]);
+    let given = end.min(input.rest.len());
+    pool[..given].copy_from_slice(&input.rest[..given]);
+    input.rest = &input.rest[given..];
 }

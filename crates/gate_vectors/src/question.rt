@@ -1,5 +1,5 @@
 // The questions on standard input: their bytes go into the pools.
-use crate::input::{next_byte, next_word};
+use crate::input::{Input, next_byte, next_word};
 use crate::pool::{fill, load, load_listed};
 
 // The most bytes that a large record lends: more than the library takes, so that SIZE is tried.
@@ -49,19 +49,20 @@ pub struct Question {
     pub fill: u8,
 }
 
-pub(crate) fn next_question() -> Question {
+pub(crate) fn next_question(input: &mut Input<'_>) -> Question {
     Question {
-        level: next_word(),
-        sli: next_word(),
-        words: next_word(),
-        map: next_word(),
-        permit: next_word(),
-        fill: next_byte(),
+        level: next_word(input),
+        sli: next_word(input),
+        words: next_word(input),
+        map: next_word(input),
+        permit: next_word(input),
+        fill: next_byte(input),
     }
 }
 
 // Reads the bytes of a record. False if the format has no such record.
 pub(crate) fn loaded(
+    input: &mut Input<'_>,
     kind: u32,
     question: Question,
     words: &mut [u8],
@@ -69,18 +70,26 @@ pub(crate) fn loaded(
     permit: &mut [u8],
 ) -> bool {
     match kind {
-        1 => judge_loaded(question, words, map, permit),
-        2 => large_loaded(question, words, map, permit),
+        1 => judge_loaded(input, question, words, map, permit),
+        2 => large_loaded(input, question, words, map, permit),
         _ => false,
     }
 }
 
 // At most 1,024 bytes of words and 256 of the map are given, and 64 of the list with their places.
-fn judge_loaded(question: Question, words: &mut [u8], map: &mut [u8], permit: &mut [u8]) -> bool {
-    given_loaded(question, next_word(), words, map, permit)
+fn judge_loaded(
+    input: &mut Input<'_>,
+    question: Question,
+    words: &mut [u8],
+    map: &mut [u8],
+    permit: &mut [u8],
+) -> bool {
+    let listed = next_word(input);
+    given_loaded(input, question, listed, words, map, permit)
 }
 
 fn given_loaded(
+    input: &mut Input<'_>,
     question: Question,
     listed: u32,
     words: &mut [u8],
@@ -91,43 +100,50 @@ fn given_loaded(
         return false;
     }
     fill(permit, question.permit, question.fill);
-    load_listed(permit, listed);
-    load(words, question.words);
-    load(map, question.map);
+    load_listed(input, permit, listed);
+    load(input, words, question.words);
+    load(input, map, question.map);
     true
 }
 
 // One byte is given for all the words, and one for the whole map.
-fn large_loaded(question: Question, words: &mut [u8], map: &mut [u8], permit: &mut [u8]) -> bool {
+fn large_loaded(
+    input: &mut Input<'_>,
+    question: Question,
+    words: &mut [u8],
+    map: &mut [u8],
+    permit: &mut [u8],
+) -> bool {
     if !fits(question, LARGE_WORDS, LARGE_MAP) {
         return false;
     }
     fill(permit, question.permit, question.fill);
-    fill(words, question.words, next_byte());
-    fill(map, question.map, next_byte());
+    fill(words, question.words, next_byte(input));
+    fill(map, question.map, next_byte(input));
     true
 }
 
 // A wide record, kind 4, lists no bytes.
-pub(crate) fn next_asked(kind: u32) -> Asked {
+pub(crate) fn next_asked(input: &mut Input<'_>, kind: u32) -> Asked {
     Asked {
-        question: next_question(),
-        listed: next_listed(kind),
-        list: next_word(),
-        work: next_word(),
+        question: next_question(input),
+        listed: next_listed(input, kind),
+        list: next_word(input),
+        work: next_word(input),
     }
 }
 
-fn next_listed(kind: u32) -> u32 {
+fn next_listed(input: &mut Input<'_>, kind: u32) -> u32 {
     if kind == 4 {
         return 0;
     }
-    next_word()
+    next_word(input)
 }
 
 // At most 300 entries of the list's room and 600 of the work room, and the rest as for a judgement; of a
 // wide record as many as the pools have.
 pub(crate) fn asked_loaded(
+    input: &mut Input<'_>,
     kind: u32,
     asked: Asked,
     words: &mut [u8],
@@ -139,29 +155,34 @@ pub(crate) fn asked_loaded(
         if MOST_LIST < asked.list as usize || MOST_WORK < asked.work as usize {
             return false;
         }
-        return large_loaded(question, words, map, permit);
+        return large_loaded(input, question, words, map, permit);
     }
     if 300 < asked.list || 600 < asked.work {
         return false;
     }
-    given_loaded(question, asked.listed, words, map, permit)
+    given_loaded(input, question, asked.listed, words, map, permit)
 }
 
-pub(crate) fn next_sought() -> Sought {
+pub(crate) fn next_sought(input: &mut Input<'_>) -> Sought {
     Sought {
-        level: next_word(),
-        mode: next_word(),
-        sli: next_word(),
-        words: next_word(),
-        permit: next_word(),
-        fill: next_byte(),
-        listed: next_word(),
-        room: next_word(),
+        level: next_word(input),
+        mode: next_word(input),
+        sli: next_word(input),
+        words: next_word(input),
+        permit: next_word(input),
+        fill: next_byte(input),
+        listed: next_word(input),
+        room: next_word(input),
     }
 }
 
 // As for the repair, without a map.
-pub(crate) fn search_loaded(sought: Sought, words: &mut [u8], permit: &mut [u8]) -> bool {
+pub(crate) fn search_loaded(
+    input: &mut Input<'_>,
+    sought: Sought,
+    words: &mut [u8],
+    permit: &mut [u8],
+) -> bool {
     if 64 < sought.listed || 1024 < sought.words || 600 < sought.room {
         return false;
     }
@@ -169,8 +190,8 @@ pub(crate) fn search_loaded(sought: Sought, words: &mut [u8], permit: &mut [u8])
         return false;
     }
     fill(permit, sought.permit, sought.fill);
-    load_listed(permit, sought.listed);
-    load(words, sought.words);
+    load_listed(input, permit, sought.listed);
+    load(input, words, sought.words);
     true
 }
 

@@ -1,7 +1,7 @@
 // The repair, asked by its function for C.
 use crate::answer::{Answer, answering};
 use crate::content::{UNTOUCHED, bytes_differ, entries_differ, uniform_differ};
-use crate::input::next_word;
+use crate::input::{Input, next_word};
 use crate::pool::{fill_entries, within};
 use crate::question::Asked;
 
@@ -46,8 +46,8 @@ fn answered(
 }
 
 // What was wanted of an answer in one number: a refusal and a count, and nothing else.
-pub(crate) fn next_wanted() -> Answer {
-    answering(0, next_word(), next_word(), 0)
+pub(crate) fn next_wanted(input: &mut Input<'_>) -> Answer {
+    answering(0, next_word(input), next_word(input), 0)
 }
 
 // What was got, with the first difference in what was left: as its reason 1 for the map, 2 for the list, 3
@@ -75,6 +75,7 @@ pub(crate) fn got(packed: u64, map: u32, list: u32, work: u32) -> Answer {
 
 // Held to what a record gives: all of it, or of a wide one, kind 4, the map alone.
 pub(crate) fn held(
+    input: &mut Input<'_>,
     kind: u32,
     packed: u64,
     asked: Asked,
@@ -84,9 +85,14 @@ pub(crate) fn held(
 ) -> Answer {
     let bytes = asked.question.map;
     if kind == 4 {
-        return got(packed, uniform_differ(map, bytes), 0, 0);
+        return got(packed, uniform_differ(input, map, bytes), 0, 0);
     }
-    let marks = bytes_differ(map, bytes);
-    let listed = entries_differ(list, asked.list);
-    got(packed, marks, listed, entries_differ(work, asked.work))
+    let marks = bytes_differ(input, map, bytes);
+    let listed = entries_differ(input, list, asked.list);
+    got(
+        packed,
+        marks,
+        listed,
+        entries_differ(input, work, asked.work),
+    )
 }

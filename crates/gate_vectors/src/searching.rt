@@ -1,6 +1,7 @@
 // The search.
 use crate::answer::{Answer, answering};
 use crate::content::{UNTOUCHED, entries_differ};
+use crate::input::Input;
 use crate::pool::{fill_entries, within};
 use crate::question::Sought;
 use search::Searched;
@@ -8,7 +9,13 @@ use word::{Level, Mode, Setting};
 
 // The library's answer to a question about the first bytes and entries of each pool, held to what the
 // record says of the room: as its reason 3 for a difference there, and as its place where, counted from 1.
-pub(crate) fn searched(sought: Sought, words: &[u8], permit: &[u8], room: &mut [u64]) -> Answer {
+pub(crate) fn searched(
+    input: &mut Input<'_>,
+    sought: Sought,
+    words: &[u8],
+    permit: &[u8],
+    room: &mut [u64],
+) -> Answer {
     fill_entries(room, sought.room, UNTOUCHED);
     let w = within(sought.words as usize, words.len());
     let p = within(sought.permit as usize, permit.len());
@@ -23,7 +30,7 @@ pub(crate) fn searched(sought: Sought, words: &[u8], permit: &[u8], room: &mut [
         sli: sought.sli != 0,
     };
     let answer = search::search(setting, &words[..w], &permit[..p], &mut room[..r]);
-    told(answer, entries_differ(room, sought.room))
+    told(answer, entries_differ(input, room, sought.room))
 }
 
 fn told(answer: Searched, differs: u32) -> Answer {

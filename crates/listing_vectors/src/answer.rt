@@ -2,6 +2,7 @@
 use crate::input::next_word;
 use crate::reader::through_reader;
 use listing::{Item, Listed};
+use std::io::{self, Read};
 use word::{Reading, Refusal, Setting, Why};
 
 // An item's number, a reading's with its values, a why, and the place after it. What an answer lacks is 0.
@@ -21,16 +22,16 @@ pub(crate) fn nothing() -> Answer {
 }
 
 // The model's.
-pub(crate) fn next_answer() -> Answer {
-    Answer {
-        item: next_word(),
-        reading: next_word(),
-        a: next_word(),
-        b: next_word(),
-        c: next_word(),
-        why: next_word(),
-        place: next_word() as usize,
-    }
+pub(crate) fn next_answer(input: &mut impl Read) -> io::Result<Answer> {
+    Ok(Answer {
+        item: next_word(input)?,
+        reading: next_word(input)?,
+        a: next_word(input)?,
+        b: next_word(input)?,
+        c: next_word(input)?,
+        why: next_word(input)?,
+        place: next_word(input)? as usize,
+    })
 }
 
 pub(crate) fn same(a: Answer, b: Answer) -> bool {

@@ -1,16 +1,36 @@
 // The words on standard input.
-ghost use Rattle.std.specs.Prelude.{◌<◌};
+ghost use Rattle.std.specs.Prelude.{◌<◌, ◌≤◌, IfOk, length};
 
-use libc::STDIN_FILENO;
+use std::io::{self, Read};
 
 // The next word, its lowest byte first; 0 where the input ends.
-pub(crate) fn next_word() -> u32 {
+pub(crate) fn next_word(input: &mut impl Read) -> io::Result<u32> {
     let mut four = [0u8; 4];
-    let got = io::read_full(STDIN_FILENO, &mut four);
+    let got = read_full(input, &mut four)?;
     if got < 4 {
-        return 0;
+        return Ok(0);
     }
-    wide(four[0]) + 0x100 * wide(four[1]) + 0x1_0000 * wide(four[2]) + 0x100_0000 * wide(four[3])
+    Ok(
+        wide(four[0])
+            + 0x100 * wide(four[1])
+            + 0x1_0000 * wide(four[2])
+            + 0x100_0000 * wide(four[3]),
+    )
+}
+
+// Reads until the buffer is full or the input ends, and answers how many bytes.
+fn read_full(input: &mut impl Read, buf: &mut [u8]) -> io::Result<usize>
+    ensures { IfOk result (λ n. n ≤ length buf.new) }
+{
+    let mut done = 0;
+    while done < buf.len() {
+        let n = input.read(&mut buf[done..])?;
+        if n == 0 {
+            break;
+        }
+        done += n;
+    }
+    Ok(done)
 }
 
 fn wide(byte: u8) -> u32

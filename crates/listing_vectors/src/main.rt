@@ -12,8 +12,8 @@ mod reader;
 
 use answer::Answer;
 use held::Held;
-use libc::STDOUT_FILENO;
 use question::LARGE_WORDS;
+use std::io::{self, BufReader, Read};
 
 // More records than a file of vectors has: the run ends with the input.
 const MOST_RECORDS: u32 = 1_000_000;
@@ -34,46 +34,46 @@ struct Tally {
     got: Answer,
 }
 
-fn main() {
-    let tally = run([0u32; LARGE_WORDS]);
-    line(b"list ", tally.list);
-    line(b"large ", tally.large);
-    line(b"unknown ", tally.unknown);
-    line(b"wrong ", tally.wrong);
-    line(b"first wrong ", tally.first);
+fn main(rt: HostRuntime) -> io::Result<()> {
+    let mut input = BufReader::new(rt.alloc(), rt.reader())?;
+    let mut words = vec![in rt.alloc(); 0u32; LARGE_WORDS]?;
+    let tally = run(&mut input, &mut words)?;
+    line(&rt, "list ", tally.list)?;
+    line(&rt, "large ", tally.large)?;
+    line(&rt, "unknown ", tally.unknown)?;
+    line(&rt, "wrong ", tally.wrong)?;
+    line(&rt, "first wrong ", tally.first)?;
     if 0 < tally.wrong {
-        line(b"  answer ", tally.answer);
+        line(&rt, "  answer ", tally.answer)?;
         let wanted = tally.wanted;
         let got = tally.got;
-        io::write_all(STDOUT_FILENO, b"  wanted\n");
-        show(wanted);
-        io::write_all(STDOUT_FILENO, b"  got\n");
-        show(got);
+        println!(rt; "  wanted")?;
+        show(&rt, wanted)?;
+        println!(rt; "  got")?;
+        show(&rt, got)?;
     }
+    Ok(())
 }
 
-fn show(answer: Answer) {
-    line(b"    item ", answer.item);
-    line(b"    reading ", answer.reading);
-    line(b"    value ", answer.a);
-    line(b"    value ", answer.b);
-    line(b"    value ", answer.c);
-    line(b"    why ", answer.why);
-    long_line(b"    place ", answer.place as u64);
+fn show(rt: &impl Print, answer: Answer) -> io::Result<()> {
+    line(rt, "    item ", answer.item)?;
+    line(rt, "    reading ", answer.reading)?;
+    line(rt, "    value ", answer.a)?;
+    line(rt, "    value ", answer.b)?;
+    line(rt, "    value ", answer.c)?;
+    line(rt, "    why ", answer.why)?;
+    long_line(rt, "    place ", answer.place as u64)
 }
 
-fn line(name: &[u8], n: u32) {
-    long_line(name, n as u64);
+fn line(rt: &impl Print, name: &str, n: u32) -> io::Result<()> {
+    long_line(rt, name, n as u64)
 }
 
-fn long_line(name: &[u8], n: u64) {
-    io::write_all(STDOUT_FILENO, name);
-    io::print_decimal(STDOUT_FILENO, n);
-    io::write_all(STDOUT_FILENO, b"\n");
+fn long_line(rt: &impl Print, name: &str, n: u64) -> io::Result<()> {
+    println!(rt; "{name}{n}")
 }
 
-// The array is a parameter: of one made here, the checker would count the words one by one.
-fn run(mut words: [u32; LARGE_WORDS]) -> Tally {
+fn run(input: &mut impl Read, words: &mut [u32]) -> io::Result<Tally> {
     let mut tally = Tally {
         over: false,
         records: 0,
@@ -87,25 +87,25 @@ fn run(mut words: [u32; LARGE_WORDS]) -> Tally {
         got: answer::nothing(),
     };
     for _ in 0..MOST_RECORDS {
-        tally = next_record(tally, &mut words);
+        tally = next_record(input, tally, words)?;
         if tally.over {
             break;
         }
     }
-    tally
+    Ok(tally)
 }
 
-fn next_record(tally: Tally, words: &mut [u32]) -> Tally {
-    let kind = input::next_word();
-    let question = question::next_question();
-    let answers = question::loaded(kind, question, words);
+fn next_record(input: &mut impl Read, tally: Tally, words: &mut [u32]) -> io::Result<Tally> {
+    let kind = input::next_word(input)?;
+    let question = question::next_question(input)?;
+    let answers = question::loaded(input, kind, question, words)?;
     if answers == 0 {
-        return ended(tally, kind);
+        return Ok(ended(tally, kind));
     }
-    judged(
+    Ok(judged(
         counted(tally, kind),
-        held::all_held(question, words, answers),
-    )
+        held::all_held(input, question, words, answers)?,
+    ))
 }
 
 // The input's end, which reads as kind 0, ends the run. So does a record that the format does not have:

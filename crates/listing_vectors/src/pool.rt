@@ -2,6 +2,7 @@
 ghost use Rattle.std.specs.Prelude.{◌≤◌};
 
 use crate::input::next_word;
+use std::io::{self, Read};
 
 // What is lent of a pool of so many words.
 pub(crate) fn within(lent: usize, len: usize) -> usize
@@ -23,8 +24,9 @@ pub(crate) fn fill(pool: &mut [u32], count: u32, word: u32) {
 }
 
 // Reads words that a record gives.
-pub(crate) fn load(pool: &mut [u32], count: u32) {
+pub(crate) fn load(input: &mut impl Read, pool: &mut [u32], count: u32) -> io::Result<()> {
     for i in 0..count {
-        put(pool, i as usize, next_word());
+        put(pool, i as usize, next_word(input)?);
     }
+    Ok(())
 }

@@ -2,7 +2,8 @@
 ghost use Rattle.std.specs.Prelude.{length};
 ghost use Rattle.pushtrace.specs.Input.{Fits};
 
-use libc::STDIN_FILENO;
+use std::io;
+use std::io::{ErrorKind, Read};
 
 // A proved loop has to end, and nothing says how often a read is interrupted: a number that no run
 // uses up.
@@ -16,7 +17,7 @@ pub(crate) enum Input {
 }
 
 // Reads until the input ends, the room is full or a read fails.
-pub(crate) fn read(room: &mut [u8]) -> Input
+pub(crate) fn read(input: &mut impl Read, room: &mut [u8]) -> Input
     ensures { Fits (length room.new) result }
 {
     let mut done = 0;
@@ -24,19 +25,20 @@ pub(crate) fn read(room: &mut [u8]) -> Input
         if done == room.len() {
             return Input::Bytes(done);
         }
-        let got = libc::read(STDIN_FILENO, &mut room[done..]);
-        if got == 0 {
-            return Input::Bytes(done);
+        match input.read(&mut room[done..]) {
+            Ok(0) => return Input::Bytes(done),
+            Ok(got) => done += got,
+            Err(error) => {
+                if failed(&error) {
+                    return Input::Failed;
+                }
+            }
         }
-        if failed(got) {
-            return Input::Failed;
-        }
-        done += io::count(got, &room[done..]);
     }
     Input::Failed
 }
 
 // Whether the read just made failed. One that was interrupted did not: it is made again.
-fn failed(got: isize) -> bool {
-    got < 0 && os::errno() != libc::EINTR
+fn failed(error: &io::Error) -> bool {
+    error.kind() != ErrorKind::Interrupted
 }

@@ -120,9 +120,9 @@ module _ (level : ℕ) (sli : Bool) (l : RepairLoan) where
     size_refused h = refusing _ (by_size 8192 level sli l.bytes l.map l.permit rooms Refused done fine h)
 
     module _ (small : length l.bytes ≤ 4 * 8192) where
-      pub length_refused : length_refused (length l.bytes) (length l.map) (length l.permit) ≡ true → Repairs level sli l (Refused (record { number = LENGTH })) l.map l.list l.work
+      pub length_refused_lem : length_refused (length l.bytes) (length l.map) (length l.permit) ≡ true → Repairs level sli l (Refused (record { number = LENGTH })) l.map l.list l.work
       unfolding repair_of
-      length_refused h = refusing _ (by_length 8192 level sli l.bytes l.map l.permit rooms Refused done fine small h)
+      length_refused_lem h = refusing _ (by_length 8192 level sli l.bytes l.map l.permit rooms Refused done fine small h)
 
       module _ (lengths : length_refused (length l.bytes) (length l.map) (length l.permit) ≡ false) where
         past : refused_or Refused (first rooms) done ≡ asked

@@ -4,11 +4,11 @@
 // last read address.
 #![tactic(auto)]
 
-ghost use Rattle.std.specs.Prelude.{◌≤◌, length};
+ghost use Rattle.std.specs.Prelude.{◌≤◌, IfOk, length};
 
 use channel::{Answer, Channel};
 use event::{Event, Kind};
-use libc::{STDIN_FILENO, STDOUT_FILENO};
+use std::io::{self, Read};
 use word::word_at;
 
 const MOST_WORDS: usize = 1_048_576;
@@ -16,51 +16,67 @@ const MOST_WORDS: usize = 1_048_576;
 // So that every input comes to an end soon.
 const MOST_STEPS: u32 = 4_000_000;
 
-fn main() {
-    run_in([0u32; MOST_WORDS]);
+fn main(rt: HostRuntime) -> io::Result<()> {
+    run_in(&rt)
 }
 
-// The array is lent from a parameter: of one made here, the checker would count the words one by one.
-fn run_in(mut words: [u32; MOST_WORDS]) {
-    run(&mut words);
+fn run_in(rt: &(impl Input + Print + AllocGlobal)) -> io::Result<()> {
+    let mut words = vec![in rt.alloc(); 0u32; MOST_WORDS]?;
+    run(rt, &mut words)
 }
 
-fn run(words: &mut [u32]) {
+fn run(rt: &(impl Input + Print), words: &mut [u32]) -> io::Result<()> {
+    let mut input = rt.reader();
     let mut asked = [0u8; 8];
-    io::read_full(STDIN_FILENO, &mut asked);
+    read_full(&mut input, &mut asked)?;
     let level = word_at(&asked, 0);
     let steps = few(word_at(&asked, 1));
-    let count = load(words);
+    let count = load(&mut input, words)?;
     let mut counts = [0u32; 17];
     let get = stepped(level, steps, &words[..count], &mut counts);
-    show(&counts);
-    io::write_all(STDOUT_FILENO, b"get ");
-    line(get);
+    show(rt, &counts)?;
+    print!(rt; "get ")?;
+    line(rt, get)
 }
 
 // Reads words to the input's end, as many as there is room for, and answers how many. A turn reads 16,384.
-fn load(words: &mut [u32]) -> usize
-    ensures { result ≤ length words.new }
+fn load(input: &mut impl Read, words: &mut [u32]) -> io::Result<usize>
+    ensures { IfOk result (λ n. n ≤ length words.new) }
 {
     let mut count = 0;
     for _ in 0..64u32 {
-        count = load_some(words, count);
+        count = load_some(input, words, count)?;
     }
-    count
+    Ok(count)
 }
 
 // Reads some words to a place and on, and answers where they end.
-fn load_some(words: &mut [u32], from: usize) -> usize
+fn load_some(input: &mut impl Read, words: &mut [u32], from: usize) -> io::Result<usize>
     requires { from ≤ length words.old }
-    ensures { result ≤ length words.new }
+    ensures { IfOk result (λ n. n ≤ length words.new) }
 {
-    let mut bytes = io::large_buffer();
-    let got = io::read_full(STDIN_FILENO, &mut bytes) / 4;
+    let mut bytes = [0u8; 65536];
+    let got = read_full(input, &mut bytes)? / 4;
     let count = least(got, words.len() - from);
     for k in 0..count {
         words[from + k] = word_at(&bytes, k);
     }
-    from + count
+    Ok(from + count)
+}
+
+// Reads until the buffer is full or the input ends, and answers how many bytes.
+fn read_full(input: &mut impl Read, buf: &mut [u8]) -> io::Result<usize>
+    ensures { IfOk result (λ n. n ≤ length buf.new) }
+{
+    let mut done = 0;
+    while done < buf.len() {
+        let n = input.read(&mut buf[done..])?;
+        if n == 0 {
+            break;
+        }
+        done += n;
+    }
+    Ok(done)
 }
 
 fn few(steps: u32) -> u32 {
@@ -148,23 +164,22 @@ fn event_number(event: Event) -> u32 {
 // One more of a number.
 fn count(counts: &mut [u32], number: usize) {
     if number < counts.len() {
-        counts[number] = std::num::wrapping_add_u32(counts[number], 1);
+        counts[number] = counts[number].wrapping_add(1);
     }
 }
 
-fn show(counts: &[u32]) {
+fn show(rt: &impl Print, counts: &[u32]) -> io::Result<()> {
     for number in 0..counts.len() {
-        show_one(number, counts[number]);
+        show_one(rt, number, counts[number])?;
     }
+    Ok(())
 }
 
-fn show_one(number: usize, count: u32) {
-    io::print_decimal(STDOUT_FILENO, number as u64);
-    io::write_all(STDOUT_FILENO, b" ");
-    line(count as u64);
+fn show_one(rt: &impl Print, number: usize, count: u32) -> io::Result<()> {
+    print!(rt; "{number} ")?;
+    line(rt, count as u64)
 }
 
-fn line(n: u64) {
-    io::print_decimal(STDOUT_FILENO, n);
-    io::write_all(STDOUT_FILENO, b"\n");
+fn line(rt: &impl Print, n: u64) -> io::Result<()> {
+    println!(rt; "{n}")
 }

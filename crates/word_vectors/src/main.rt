@@ -7,8 +7,8 @@ mod answer;
 mod constant;
 mod question;
 
-use libc::STDOUT_FILENO;
 use question::{Kind, RECORD_WORDS, Record};
+use std::io::{self, BufReader, Read};
 
 // More records than a file of vectors has: the run ends with the input.
 const MOST_RECORDS: u32 = 1_000_000;
@@ -26,46 +26,47 @@ struct Tally {
     words: [u32; RECORD_WORDS],
 }
 
-fn main() {
+fn main(rt: HostRuntime) -> io::Result<()> {
     constant::constants();
-    let tally = run_in([0u32; 1_048_577]);
-    line(b"read ", tally.read);
-    line(b"read_at ", tally.read_at);
-    line(b"write ", tally.write);
-    line(b"present ", tally.present);
-    line(b"unknown ", tally.unknown);
-    line(b"wrong ", tally.wrong);
-    line(b"first wrong ", tally.first);
+    let tally = run_in(&rt)?;
+    line(&rt, "read ", tally.read)?;
+    line(&rt, "read_at ", tally.read_at)?;
+    line(&rt, "write ", tally.write)?;
+    line(&rt, "present ", tally.present)?;
+    line(&rt, "unknown ", tally.unknown)?;
+    line(&rt, "wrong ", tally.wrong)?;
+    line(&rt, "first wrong ", tally.first)?;
     if 0 < tally.wrong {
         let words = tally.words;
-        show(words);
+        show(&rt, words)?;
     }
+    Ok(())
 }
 
 // The words of a record, a line each.
-fn show(words: [u32; RECORD_WORDS]) {
+fn show(rt: &impl Print, words: [u32; RECORD_WORDS]) -> io::Result<()> {
     for i in 0..RECORD_WORDS {
-        show_word(words[i]);
+        show_word(rt, words[i])?;
     }
+    Ok(())
 }
 
-fn show_word(word: u32) {
-    line(b"  ", word);
+fn show_word(rt: &impl Print, word: u32) -> io::Result<()> {
+    line(rt, "  ", word)
 }
 
-// One word more than may be lent, so that SIZE is tried. The array is lent from a parameter: of one
-// made here, the checker would count the words one by one.
-fn run_in(mut space: [u32; 1_048_577]) -> Tally {
-    run(&mut space[..])
+// One word more than may be lent, so that SIZE is tried.
+fn run_in(rt: &(impl Input + AllocGlobal)) -> io::Result<Tally> {
+    let mut input = BufReader::new(rt.alloc(), rt.reader())?;
+    let mut space = vec![in rt.alloc(); 0u32; 1_048_577]?;
+    run(&mut input, &mut space)
 }
 
-fn line(name: &[u8], n: u32) {
-    io::write_all(STDOUT_FILENO, name);
-    io::print_decimal(STDOUT_FILENO, n as u64);
-    io::write_all(STDOUT_FILENO, b"\n");
+fn line(rt: &impl Print, name: &str, n: u32) -> io::Result<()> {
+    println!(rt; "{name}{n}")
 }
 
-fn run(space: &mut [u32]) -> Tally {
+fn run(input: &mut impl Read, space: &mut [u32]) -> io::Result<Tally> {
     let mut tally = Tally {
         read: 0,
         read_at: 0,
@@ -77,7 +78,7 @@ fn run(space: &mut [u32]) -> Tally {
         words: [0; RECORD_WORDS],
     };
     for n in 0..MOST_RECORDS {
-        let record = question::next_record();
+        let record = question::next_record(input)?;
         let kind = record.kind;
         if let Kind::End = kind {
             break;
@@ -88,7 +89,7 @@ fn run(space: &mut [u32]) -> Tally {
             tally = missed(tally, n, words);
         }
     }
-    tally
+    Ok(tally)
 }
 
 // One more of a kind.

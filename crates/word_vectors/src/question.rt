@@ -1,7 +1,7 @@
 // The records on standard input: a kind, and the words of its question and answer.
-ghost use Rattle.std.specs.Prelude.{◌<◌};
+ghost use Rattle.std.specs.Prelude.{◌<◌, ◌≤◌, IfOk, length};
 
-use libc::STDIN_FILENO;
+use std::io::{self, Read};
 
 // The most words of a record, behind its kind.
 pub(crate) const RECORD_WORDS: usize = 16;
@@ -25,37 +25,52 @@ pub struct Record {
 }
 
 // The next record; `End` where the input ends, also in the middle of a record.
-pub(crate) fn next_record() -> Record {
-    let kind = next_kind();
+pub(crate) fn next_record(input: &mut impl Read) -> io::Result<Record> {
+    let kind = next_kind(input)?;
     let count = word_count(kind);
     let mut bytes = [0u8; RECORD_BYTES];
     let wanted = 4 * count;
-    let got = io::read_full(STDIN_FILENO, &mut bytes[..wanted]);
+    let got = read_full(input, &mut bytes[..wanted])?;
     if got < wanted {
-        return Record {
+        return Ok(Record {
             kind: Kind::End,
             words: [0u32; RECORD_WORDS],
-        };
+        });
     }
-    Record {
+    Ok(Record {
         kind,
         words: words_of(bytes),
-    }
+    })
 }
 
-fn next_kind() -> Kind {
+fn next_kind(input: &mut impl Read) -> io::Result<Kind> {
     let mut four = [0u8; 4];
-    let got = io::read_full(STDIN_FILENO, &mut four);
+    let got = read_full(input, &mut four)?;
     if got < 4 {
-        return Kind::End;
+        return Ok(Kind::End);
     }
-    match word_of(four[0], four[1], four[2], four[3]) {
+    Ok(match word_of(four[0], four[1], four[2], four[3]) {
         1 => Kind::Read,
         2 => Kind::ReadAt,
         3 => Kind::Write,
         4 => Kind::Present,
         _ => Kind::Unknown,
+    })
+}
+
+// Reads until the buffer is full or the input ends, and answers how many bytes.
+fn read_full(input: &mut impl Read, buf: &mut [u8]) -> io::Result<usize>
+    ensures { IfOk result (λ n. n ≤ length buf.new) }
+{
+    let mut done = 0;
+    while done < buf.len() {
+        let n = input.read(&mut buf[done..])?;
+        if n == 0 {
+            break;
+        }
+        done += n;
     }
+    Ok(done)
 }
 
 // How many words follow a record's kind.

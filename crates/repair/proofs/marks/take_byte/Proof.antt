@@ -11,12 +11,12 @@ use Rattle.repair.proofs.marks.take_byte.Tie as tie
 low : (c : tie.After-mark) → c.mark.result ≤ 1
 low c = rw c.mark.ensures (by_test (λ (n : ℕ). n ≤ 1) (λ e. omega arith) (λ e. omega arith))
 
-high : (c : tie.After-mark2) → c.mark2.result ≤ 2
-high c = rw c.mark2.ensures (by_test (λ (n : ℕ). n ≤ 2) (λ e. omega arith) (λ e. omega arith))
+high : (c : tie.After-mark-2) → c.mark-2.result ≤ 2
+high c = rw c.mark-2.ensures (by_test (λ (n : ℕ). n ≤ 2) (λ e. omega arith) (λ e. omega arith))
 
-pub take-byte-spec : {M : Type 1} → statement M
+pub take_byte_spec : {M : Type 1} → statement M
 unfolding byte_by
-take-byte-spec =
+take_byte_spec =
     tie.close
     (tie.spec
     (λ c. search rules)
@@ -33,4 +33,4 @@ take-byte-spec =
     (λ c. search rules)
     (λ c. search rules)
     (λ c. search rules)
-    (λ c. (rw (c.before.before.mark.ensures, c.mark2.ensures), refl)))
+    (λ c. (rw (c.mark.ensures, c.mark-2.ensures), refl)))

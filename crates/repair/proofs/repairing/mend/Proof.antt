@@ -22,31 +22,29 @@ module _ (c : tie.After-search) where
   given = submission start.args.setting start.args.words.now start.args.permit.now
 
   many : length start.args.map.now ≡ size given
-  many = sym (words_many start.args.words.now start.pre.0)
+  many = sym (words_many start.args.words.now start.requires.0)
 
   abbrev room : List ℕ
-  room = c.search.new.1.1.1.0
+  room = c.search.new.room
 
   searched : room ≡ room_of given ++ drop (2 * size given) start.args.work.now
-  searched = acted start.args.setting start.args.words.now start.args.permit.now start.args.work.now (omega (arith, start.pre.0, start.pre.1)) (omega (arith, start.pre.0, start.pre.3)) c.search.ensures
+  searched = acted start.args.setting start.args.words.now start.args.permit.now start.args.work.now (omega (arith, start.requires.0, start.requires.1)) (omega (arith, start.requires.0, start.requires.3)) c.search.ensures
 
   front : length (take (2 * length start.args.map.now) room) ≡ 2 * length start.args.map.now
-  front = length-take-le (2 * length start.args.map.now) room (omega (arith, c.search.auto.1.1.1.0, start.pre.3))
+  front = length-take-le (2 * length start.args.map.now) room (omega (arith, c.search.auto.room, start.requires.3))
 
-pub mend-spec : {M : Type 1} → statement M
-mend-spec =
+pub mend_spec : {M : Type 1} → statement M
+mend_spec =
     tie.close
     (tie.spec
     (λ c κs. search rules)
     (λ c. search rules)
     (λ c. search rules)
     (λ c. sym (front c.before.before.before.before.before))
-    (λ c κs. let at = c.before.before.before.before.before in let s = start at in (omega (arith, s.pre.1), s.pre.2, front at))
+    (λ c κs. let s = start c.before.before.before.before.before in (omega (arith, s.requires.1), s.requires.2, front c.before.before.before.before.before))
     (λ c. search rules)
     (λ c. search rules)
     (λ c. search rules)
     (λ c.
-    let called = c.before.before.before.before.before.before in
-    let at = called.before.before.before.before.before.before in
-    let s = start at in
-    mends (given at) (omega (arith, many at, s.pre.1)) s.args.map.now s.args.list.now s.args.work.now (room at) (many at) (searched at) called.rewrite.ensures))
+    let s = start c.before.before.before.before.before.before.before.before.before.before.before.before in
+    mends (given c.before.before.before.before.before.before.before.before.before.before.before.before) (omega (arith, many c.before.before.before.before.before.before.before.before.before.before.before.before, s.requires.1)) s.args.map.now s.args.list.now s.args.work.now (room c.before.before.before.before.before.before.before.before.before.before.before.before) (many c.before.before.before.before.before.before.before.before.before.before.before.before) (searched c.before.before.before.before.before.before.before.before.before.before.before.before) c.rewrite.ensures))

@@ -22,21 +22,16 @@ module _ (c : tie.Start) where
   few : let a = c.args in a.next ≡ held (nexts a.command a.place a.inside) → a.next.count ≤ 2
   few is = let a = c.args in rw is (at_most_two a.command a.place a.inside)
 
-pub flaw-spec : {M : Type 1} → statement M
-flaw-spec =
+pub flaw_spec : {M : Type 1} → statement M
+flaw_spec =
     tie.close
     (tie.spec
     (λ c κs. search rules)
     (λ c. search rules)
     (λ c is.
-    let tried = c.before.before in
-    let start = tried.before.before.before in
-    found_first (own start) (MARKED_PARAMETER when false ∷ next start) tried.own_reason.ensures c.enum_told.given.1)
+    found_first (own c.before.before.before.before) (MARKED_PARAMETER when false ∷ next c.before.before.before.before) c.own_reason-own.ensures c.in-Against.is)
     (λ c. search rules)
     (λ c κs. search rules)
     (λ c is.
-    let told = c.before in
-    let tried = told.before.before in
-    let start = tried.before.before.before in
-    found_later (own start) (MARKED_PARAMETER when false ∷ next start) tried.own_reason.ensures told.enum-told2.given.1
-    (found_past MARKED_PARAMETER (next start) refl (c.next-flaw.ensures (nexts start.args.command start.args.place start.args.inside) is (few start is)))))
+    found_later (own c.before.before.before.before.before) (MARKED_PARAMETER when false ∷ next c.before.before.before.before.before) c.own_reason-own.ensures c.in_default.is
+    (found_past MARKED_PARAMETER (next c.before.before.before.before.before) refl (c.next_flaw.ensures (nexts c.args.command c.args.place c.args.inside) is (few c.before.before.before.before.before is)))))

@@ -9,22 +9,20 @@ use Rattle.search.proofs.searching.search.Statement.{statement}
 use Rattle.search.proofs.searching.search.Tie as tie
 
 -- the front of the room has two entries a word
-front : (c : tie.Else2) → let a = c.before.before.before.before.before.args in length (take (2 * (length a.words.now / 4)) a.room.now) ≡ 2 * (length a.words.now / 4)
-front c = length-take-le _ _ (omega (arith, c.if2.false))
+front : (c : tie.Else-room-pairs) → let a = c.args in length (take (2 * (length a.words.now / 4)) a.room.now) ≡ 2 * (length a.words.now / 4)
+front c = length-take-le _ _ (omega (arith, c.if-room-pairs.false))
 
-pub search-spec : {M : Type 1} → statement M
-search-spec =
+pub search_spec : {M : Type 1} → statement M
+search_spec =
     tie.close
     (tie.spec
     (λ c. search rules)
-    (λ c. too_many _ _ _ _ c.if1.true)
+    (λ c. too_many _ _ _ _ c.if-words.true)
     (λ c. search rules)
-    (λ c. too_short _ _ _ _ (omega (arith, c.before.if1.false)) c.if2.true)
+    (λ c. too_short _ _ _ _ (omega (arith, c.if-words.false)) c.if-room-pairs.true)
     (λ c. search rules)
     (λ c. sym (front c.before))
-    (λ c κs. (front c.before, omega (arith, c.before.before.if1.false)))
+    (λ c κs. (front c.before, omega (arith, c.if-words.false)))
     (λ c. search rules)
     (λ c.
-    let called = c.before.before in
-    let room = called.before.before in
-    searched _ _ _ _ (omega (arith, room.before.if1.false)) (omega (arith, room.if2.false)) called.search-in.new.1.1.1.0 (called.search-in.auto.1.1.1.0 ∙ front room) called.search-in.ensures))
+    searched _ _ _ _ (omega (arith, c.if-words.false)) (omega (arith, c.if-room-pairs.false)) c.search_in-count.new.room (c.search_in-count.auto.room ∙ front c.before.before.before.before) c.search_in-count.ensures))

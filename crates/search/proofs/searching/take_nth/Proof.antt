@@ -37,7 +37,7 @@ module _ (c : tie.Start) where
   held = few c.requires.2.0 c.requires.2.1
 
 -- the pair that is taken
-module _ (c : tie.Else1) where
+module _ (c : tie.Else-count-turn) where
   abbrev start : tie.Start
   start = c.before.before.before.before
 
@@ -45,72 +45,66 @@ module _ (c : tie.Else1) where
   pair = get_or start.args.room.now start.args.turn 0 / 2 ^ 32
 
   turn_there : start.args.turn < start.args.count
-  turn_there = omega (arith, c.if1.false)
+  turn_there = omega (arith, c.if-count-turn.false)
 
   pair_is : (fs : List Found) → Holds fs start.args.room.now start.args.count → (pair ≡ (get_or fs start.args.turn (0 found_from 0)).pair) × ((get_or fs start.args.turn (0 found_from 0)).pair < length start.args.room.now)
   pair_is fs h = pair_at fs start.args.room.now start.args.count h (small start) start.args.turn turn_there
 
   pair_within : pair < length start.args.room.now
-  pair_within = let at = pair_is start.pre.2.0 start.pre.2.1 in omega (arith, at.0, at.1)
+  pair_within = let at = pair_is start.requires.2.0 start.requires.2.1 in omega (arith, at.0, at.1)
 
-read : (c : tie.After-read) → let at = c.before.before.before in c.read.result ≡ command_at (given (start at)) (place_of (pair at))
-read c = rw c.before.word_at.ensures at c.read.ensures
+read : (c : tie.After-read-command) → let at = c.before.before.before in c.read-command.result ≡ command_at (given (start c.before.before.before)) (place_of (pair c.before.before.before))
+read c = rw c.word_at.ensures at c.read-command.ensures
 
-module _ (c : tie.After-flaw) where
-  abbrev from_flaw : tie.Else1
+module _ (c : tie.After-flaw-found) where
+  abbrev from_flaw : tie.Else-count-turn
   from_flaw = c.before.before.before.before.before
 
   -- what is found of it, by the path rule
-  found : c.flaw.result ≡ finding_of (first (command_cases no_map (given (start from_flaw)) c.before.before.read.result (place_of (pair from_flaw)) (state_of (pair from_flaw))))
-  found = c.flaw.ensures c.before.nexts.ensures
+  found : c.flaw-found.result ≡ finding_of (first (command_cases no_map (given (start from_flaw)) c.read-command.result (place_of (pair from_flaw)) (state_of (pair from_flaw))))
+  found = c.flaw-found.ensures c.nexts-next.ensures
 
-pub take-nth-spec : {M : Type 1} → statement M
-take-nth-spec =
+pub take_nth_spec : {M : Type 1} → statement M
+take_nth_spec =
     tie.close
     (tie.spec
     (λ c fs h.
     let s = c.before.before.before.before in
-    rw (take_past (given s) fs s.args.turn (omega (arith, h.counted, c.if1.true))) h)
+    rw (take_past (given c.before.before.before.before) fs c.args.turn (omega (arith, h.counted, c.if-count-turn.true))) h)
     (λ c. let s = start c in omega (arith, turn_there c, held s, small s))
     (λ c. let s = start c.before in omega (arith, turn_there c.before, held s))
     (λ c κs. search rules)
     (λ c κs. search rules)
-    (λ c. let e = c.before.before.before in omega (arith, pair_within e, small (start e)))
+    (λ c. let e = c.before.before.before in omega (arith, pair_within c.before.before.before, small (start c.before.before.before)))
     (λ c κs. search rules)
     (λ c κs. search rules)
     (λ c. search rules)
     (λ c fs h.
-    let f = c.before.before in
-    let e = from_flaw f in
+    let e = from_flaw c.before in
     let s = start e in
-    rw (take_flawed (given s) fs s.args.turn (omega (arith, turn_there e, h.counted)) (pair_is e fs h).0 (flawed (given s) (place_of (pair e)) (state_of (pair e)) (read f.before.before) (found f) c.enum_told.given.1)) h)
+    rw (take_flawed (given s) fs s.args.turn (omega (arith, turn_there e, h.counted)) (pair_is e fs h).0 (flawed (given s) (place_of (pair e)) (state_of (pair e)) (read c.before.before.before) (found c.before) c.in-Against.is)) h)
     (λ c. search rules)
     (λ c κs.
-    let told = c.before in
-    let f = told.before.before in
-    let e = from_flaw f in
+    let e = from_flaw c.before.before in
     let s = start e in
-    let quiet = told.enum-told2.given.1 in (
-      omega (arith, s.pre.1),
-      omega (arith, pair_within e, s.pre.0),
-      s.pre.0,
-      omega (arith, many s, first_there (given s) (place_of (pair e)) (state_of (pair e)) (read f.before.before) (found f) quiet f.before.nexts.ensures),
-      omega (arith, many s, second_there (given s) (place_of (pair e)) (state_of (pair e)) (read f.before.before) (found f) quiet f.before.nexts.ensures),
-      s.pre.2,
+    let quiet = c.in_default.is in (
+      omega (arith, s.requires.1),
+      omega (arith, pair_within e, s.requires.0),
+      s.requires.0,
+      omega (arith, many s, first_there (given s) (place_of (pair e)) (state_of (pair e)) (read c.before.before.before.before) (found c.before.before) quiet c.nexts-next.ensures),
+      omega (arith, many s, second_there (given s) (place_of (pair e)) (state_of (pair e)) (read c.before.before.before.before) (found c.before.before) quiet c.nexts-next.ensures),
+      s.requires.2,
     ))
     (λ c. search rules)
     (λ c fs h.
-    let each = c.before.before in
-    let told = each.before.before in
-    let f = told.before.before in
-    let e = from_flaw f in
+    let e = from_flaw c.before.before.before.before.before in
     let s = start e in
-    let command = f.before.before.read.result in
-    let sound = flawless (given s) (place_of (pair e)) (state_of (pair e)) (read f.before.before) (found f) told.enum-told2.given.1 in
+    let command = c.read-command.result in
+    let sound = flawless (given s) (place_of (pair e)) (state_of (pair e)) (read c.before.before.before.before.before.before.before) (found c.before.before.before.before.before) c.in_default.is in
     let same =
     take_sound (given s) fs s.args.turn (omega (arith, turn_there e, h.counted)) (pair_is e fs h).0 sound
     ∙ ap (λ (n : ℕ). find_each n (pair e) fs (nexts (command_at (given s) (place_of (pair e))) (place_of (pair e)) (state_of (pair e)))) (many s)
-    ∙ ap (λ (d : Reading). find_each (length s.args.words.now / 4) (pair e) fs (nexts d (place_of (pair e)) (state_of (pair e)))) (sym (read f.before.before)) in
+    ∙ ap (λ (d : Reading). find_each (length s.args.words.now / 4) (pair e) fs (nexts d (place_of (pair e)) (state_of (pair e)))) (sym (read c.before.before.before.before.before.before.before)) in
     rw same
-    (each.find-each.ensures fs (nexts command (place_of (pair e)) (state_of (pair e))) f.before.nexts.ensures
-    (rw f.before.nexts.ensures (at_most_two command (place_of (pair e)) (state_of (pair e)))) h)))
+    (c.find_each.ensures fs (nexts command (place_of (pair e)) (state_of (pair e))) c.nexts-next.ensures
+    (rw c.nexts-next.ensures (at_most_two command (place_of (pair e)) (state_of (pair e)))) h)))
