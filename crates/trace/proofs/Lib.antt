@@ -7,7 +7,7 @@ pub mod Room
 pub mod Spelling
 pub mod Ends
 pub mod Beginning
-pub mod Told
+pub mod ToldLaws
 pub mod NextLine
 pub mod Turns
 pub mod Examples

@@ -28,7 +28,7 @@ use Rattle.trace.specs.declared.run.Trace.{Trace}
 use Rattle.trace.specs.declared.run.Told.{Told}
 use Rattle.trace.proofs.Room.{none_has}
 use Rattle.trace.proofs.Telling.{by_answer}
-use Rattle.trace.proofs.Told.{endings, goes_on, is_refused, is_running, is_over}
+use Rattle.trace.proofs.ToldLaws.{endings, goes_on, is_refused, is_running, is_over}
 
 -- The next line of a run:
 module _ (t : Trace) (ws sems : List ℕ) (told : Told) (exit : List ℕ) where

@@ -24,7 +24,7 @@ use Rattle.trace.proofs.Spelling as spelling
 use Rattle.trace.proofs.Ends.{if_stopped, by_pusher, by_puller, not_stopped, idle_iff, step_iff, budget_iff}
 use Rattle.trace.proofs.Beginning as beginning
 use Rattle.trace.proofs.NextLine as next
-use Rattle.trace.proofs.Told as told
+use Rattle.trace.proofs.ToldLaws as told
 use Rattle.trace.proofs.Turns.{prints, none_refused_there}
 use Rattle.trace.proofs.Examples.{examples}
 

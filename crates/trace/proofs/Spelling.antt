@@ -29,7 +29,7 @@ use Rattle.trace.specs.declared.end.Cause.{Cause}
 use Rattle.trace.specs.declared.end.Cause.TheVariants as cause
 use Rattle.trace.specs.declared.end.End.TheVariants.{Error, Idle, Budget}
 use Rattle.trace.proofs.Digits.{decimal_plain}
-use Rattle.trace.proofs.Told.{is_idle, is_budget, is_error}
+use Rattle.trace.proofs.ToldLaws.{is_idle, is_budget, is_error}
 use Rattle.trace.proofs.Room.{step_has, end_has, refused_has}
 
 pub texts : Texts

@@ -1,10 +1,10 @@
+use borrow.Enum.Refused.{opened}
 use Prim.Native.Nat.{ℕ}
 use mathlib.Core.Path.{◌≡◌, refl}
 use mathlib.Core.List.{List, [], ◌∷◌}
 use mathlib.Core.Option.{none}
 use types.Run.{OneOf, miss}
 use denote.Enum.Declared.{tag_of}
-use borrow.Author.Rules.{rules}
 use Rattle.word.specs.Why.{why_number}
 use Rattle.word.specs.declared.why.Why.{Why}
 use Rattle.pusher.specs.Record.{why}
@@ -18,8 +18,7 @@ use Rattle.trace.specs.Lines.{why_part}
 use Rattle.trace.specs.declared.line.Line.{Line}
 use Rattle.trace.proofs.Adding.{add_then}
 use Rattle.trace.proofs.Names.{said_name}
-use Rattle.trace.proofs.text.why_in.Statement.{statement}
-use Rattle.trace.proofs.text.why_in.Tie as tie
+use Rattle.trace.proofs.text.why_in.Goals as goal
 
 -- the tags of the errors that have no why: what a `let .. else` on `ReservedCmd` leaves
 abbrev others : List ℕ
@@ -44,20 +43,11 @@ with_why : {m r : Line} (l : Line) {e : PusherError} {y : Why} → e ≡ cause.R
 unfolding why why_part
 with_why l {y = y} e a b = rw e (add_then l (text " why=") (text (why_name (why_number y))) a b)
 
-pub why-in-spec : {M : Type 1} → statement M
+pub returns-in_default : goal.returns-in_default
 unfolding text whys why_name
-why-in-spec =
-    tie.close
-    (tie.spec
-    (λ c. search rules)
-    (λ c. let a = c.before.args in without a.line a.error (no_why a.error c.match.keys2))
-    (λ c. search rules)
-    (λ c κs. search rules)
-    (λ c. search rules)
-    (λ c κs. search rules)
-    (λ c. search rules)
-    (λ c κs. search rules)
-    (λ c.
-    let at2 = c.before in
-    let at1 = at2.before.before in
-    with_why _ at1.before.before.before.error.given.1 at1.say.ensures (said_name whys _ _ _ refl at2.number.ensures c.name_in.ensures)))
+returns-in_default c = let a = c.args in without a.line a.error (no_why a.error (opened c.in_default.in_default-own.keys2))
+
+pub returns : goal.returns
+unfolding text whys why_name
+returns c =
+    with_why _ c.in-ReservedCmd.is c.say.ensures (said_name whys _ _ _ refl c.number.ensures c.name_in.ensures)
