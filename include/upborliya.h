@@ -1,7 +1,7 @@
 /* The gatekeeper for command words of NV04 to NV84 cards, for a host program in C: upborliya_judge judges a
  * submission, upborliya_repair puts its map right, and upborliya_read says what one word means.
  *
- * Link with the archive that `rt staticlib upborliya` writes, or where it is installed with what
+ * Link with the archive that `make -C host archive` writes, or where it is installed with what
  * `pkg-config --libs upborliya` says. */
 #ifndef UPBORLIYA_H
 #define UPBORLIYA_H

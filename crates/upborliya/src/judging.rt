@@ -7,14 +7,7 @@ use gate::judge;
 use rules::{Judgement, Reason, Verdict};
 
 // Judges a submission. SLI is off for 0, and on for any other number.
-#[unsafe(no_mangle)]
-pub extern "C" fn upborliya_judge(
-    level: u32,
-    sli: u32,
-    words: &[u8],
-    map: &[u8],
-    permit: &[u8],
-) -> u64
+pub fn upborliya_judge(level: u32, sli: u32, words: &[u8], map: &[u8], permit: &[u8]) -> u64
     ensures { JudgesPacked level sli words.now map.now permit.now result }
 {
     pack(judge(level, sli != 0, words, map, permit))

@@ -1,4 +1,5 @@
-// What a host program in C calls (include/upborliya.h): numbers and slices in, one number out.
+// What a host program in C calls (include/upborliya.h), which crates/upborliya_c exports: numbers and slices in, one
+// number out.
 #![tactic(auto)]
 
 mod judging;

@@ -6,8 +6,7 @@ ghost use Rattle.upborliya.specs.Outcomes.{ReadsPacked};
 use word::{Level, Mode, Reading, Setting, read};
 
 // Reads a word, with the word after it. SLI is off for 0, and on for any other number.
-#[unsafe(no_mangle)]
-pub extern "C" fn upborliya_read(level: u32, mode: u32, sli: u32, word: u32, next: u32) -> u64
+pub fn upborliya_read(level: u32, mode: u32, sli: u32, word: u32, next: u32) -> u64
     ensures { ReadsPacked level mode sli word next result }
 {
     let setting = Setting {

@@ -8,8 +8,7 @@ use repair::{Repaired, repair};
 
 // Writes the exact map over the author's, and lists what changed. SLI is off for 0, and on for any other
 // number.
-#[unsafe(no_mangle)]
-pub extern "C" fn upborliya_repair(
+pub fn upborliya_repair(
     level: u32,
     sli: u32,
     words: &[u8],
