@@ -36,5 +36,4 @@ loop-number-preserved c =
 
 pub returns : goal.returns
 returns c =
-    let turn = c.before in
     pairs_fine _ _ _ c.loop-number.invariant.1 (λ p l m. c.end_of_marks-end.ensures.2 p (omega arith) m)

@@ -29,7 +29,6 @@ well_formed_spec =
     rw (well_formed_lem c.args.self (typed c.before.before.before.before.before.before.before.before.before.before), sym c.running.ensures ∙ c.if-not-running.true, and-false, and-false))
     (λ c κs. search rules)
     (λ c.
-    let three = c.before in
     let address = sym c.addressed.ensures ∙ c.if-not-addressed.false in
     let run = sym c.running.ensures ∙ c.if-not-running.false in
     rw (well_formed_lem c.args.self (typed c.before.before.before.before.before.before.before.before.before.before.before.before), fits c.before.before.before.before.before.before.before.before.before, address, run) c.bound.ensures))
