@@ -6,7 +6,8 @@
  * that a word is looked at as a parameter at most once for each state, and the first reason ends the
  * judgement. So the worst maps mark every command for both states and give no reason before the end. Under
  * them the worst words are the shortest commands, of which there are most, drawn so that none foretells the
- * next; and runs that go to a method below 0x100, so that each is asked for special methods too. */
+ * next; and runs that go to a method below 0x100, so that each parameter is asked for as a special method
+ * too. */
 #include <inttypes.h>
 #include <stdio.h>
 #include <stdlib.h>
@@ -214,7 +215,7 @@ static const struct shape shapes[] = {
     {"both states: jumps anywhere", give_jumps_for_both, REASON_NONE},
     {"both states: jumps and no parameters", give_short_for_both, REASON_NONE},
     {"both states: runs of 1 to method 0", give_ones_for_both, REASON_NONE},
-    {"both states: non-increasing runs of 1,023 to method 0", give_long_for_both, REASON_NONE},
+    {"both states: runs of 1,023 to method 0", give_long_for_both, REASON_NONE},
 };
 
 enum { SHAPES = sizeof shapes / sizeof shapes[0] };

@@ -48,7 +48,7 @@ use Rattle.pusher.proofs.Failing.{failing}
 use Rattle.channel.specs.Loan.{Loan}
 use Rattle.channel.specs.State.{well_formed}
 use Rattle.channel.specs.Answers.{opening_refusal, opening_values, step_refusal}
-use Rattle.channel.specs.Opening.{fresh_channel, opened, opening_of, open_of}
+use Rattle.channel.specs.Opening.{fresh_channel, opening_of, open_of}
 use Rattle.channel.specs.Record.{with_pusher}
 use Rattle.channel.specs.Putting.{put_cases, with_put, unchanged, put_of}
 use Rattle.channel.specs.Stepping.{Outcome, unrefused, step_cases, step_of}

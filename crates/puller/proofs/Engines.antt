@@ -1,5 +1,5 @@
 -- The engines of the subchannels: there are eight, and a number above them has none. Assumes nothing.
-use Rattle.std.proofs.Common.{◌≡◌, ℕ, ◌≤◌, List, length, sym, ◌∙◌, arith}
+use Rattle.std.proofs.Common.{◌≡◌, ℕ, ◌≤◌, List, length, sym, arith}
 use lib.ListN.{get_or-eq_default}
 use lib.Seq.{set_out}
 use mir.Val.{Val}

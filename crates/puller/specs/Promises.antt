@@ -1,6 +1,6 @@
 -- The promises about the object table and the puller, each a statement that is proved under its own name in proofs/. They
 -- speak of the public functions through their contracts (Outcomes.antt): of everything that a contract allows.
-use Rattle.std.specs.Prelude.{◌≡◌, ℕ, ◌+◌, ◌*◌, ◌/◌, ◌%◌, ◌^◌, ◌<◌, ◌≤◌, Bool, true, false, ◌⊎◌, ◌↔◌, List, [], ◌∷◌, map, length, set, ◌≢◌, slice_index, slice_index_or, slice_set}
+use Rattle.std.specs.Prelude.{◌≡◌, ℕ, ◌+◌, ◌*◌, ◌/◌, ◌%◌, ◌^◌, ◌<◌, ◌≤◌, Bool, true, false, ◌⊎◌, ◌↔◌, List, [], ◌∷◌, map, length, ◌≢◌, slice_index, slice_index_or, slice_set}
 use Rattle.std.proofs.Math.Option.{Option, some}
 use Rattle.word.specs.declared.setting.Level.{Level}
 use Rattle.event.specs.Event.{values, number as kind_number}

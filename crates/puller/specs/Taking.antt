@@ -1,5 +1,5 @@
 -- What the puller does with a method, and with an acquire that waits (docs/CARD.md, P).
-use Rattle.std.specs.Prelude.{ℕ, ◌+◌, ◌-◌, ◌*◌, ◌/◌, ◌%◌, ◌^◌, Bool, true, false, not, ◌&&◌, ◌||◌, List, [], ◌∷◌, length, set, ◌==◌, nat_le, nat_lt, slice_index, slice_set}
+use Rattle.std.specs.Prelude.{ℕ, ◌+◌, ◌-◌, ◌*◌, ◌/◌, ◌%◌, ◌^◌, Bool, true, not, ◌&&◌, ◌||◌, List, [], ◌∷◌, length, ◌==◌, nat_le, nat_lt, slice_index, slice_set}
 use Rattle.std.proofs.lemmas.List.Edits.{sets}
 use Rattle.word.specs.First.{choose}
 use Rattle.word.specs.Parts.{bits}

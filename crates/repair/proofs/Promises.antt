@@ -1,5 +1,5 @@
 -- The promises, each proved under its name; what `Listed` rests on stands in the file of its name. Assumes nothing.
-use Prim.Native.Nat.{ℕ, zero, suc, ◌-◌, ◌*◌, ◌/◌, ◌^◌, ◌≤◌, ◌<◌}
+use Prim.Native.Nat.{ℕ, zero, suc, ◌*◌, ◌/◌, ◌^◌, ◌≤◌, ◌<◌}
 use mathlib.Core.Path.{◌≡◌, refl, sym, ap, ◌∙◌}
 use mathlib.Core.Bool.{Bool, true, false}
 use mathlib.Core.List.{List, [], ◌∷◌}
@@ -9,7 +9,7 @@ use native.Mathlib.Omega.{arith}
 use lib.Dec.{ltb}
 use lib.ListN.{length, get_or, get_or-eq_default}
 use borrow.Author.Tests.{eq-eqb, ltb-true, ltb-false}
-use Rattle.word.specs.First.{Case, PlainCase, ◌when◌, ◌if◌, first, FirstIs}
+use Rattle.word.specs.First.{Case, PlainCase, ◌when◌, ◌if◌, FirstIs}
 use Rattle.word.specs.Setting.{ROOM, refused_or}
 use Rattle.word.specs.declared.setting.Refusal.{Refusal}
 use Rattle.word.proofs.First.{choose_true, Agree, append_none, none_fails, one_outcome}

@@ -7,7 +7,6 @@ use mathlib.Core.Logic.{inl, inr, ⊎_elim}
 use native.Mathlib.Nat.{eq-or-lt_of_le}
 use native.Mathlib.Omega.{arith}
 use lib.ListN.{length}
-use Rattle.pusher.specs.Record.{number}
 use Rattle.pusher.specs.Loan.{PusherLoan, with_words}
 use Rattle.pusher.specs.Many.{Moved, unmoved, move}
 use Rattle.pusher.specs.Promises.{ReadsCommand, ReadsParameter}

@@ -4,7 +4,7 @@
 // last read address.
 #![tactic(auto)]
 
-ghost use Rattle.std.specs.Prelude.{◌≤◌, IfOk, length};
+ghost use Rattle.std.specs.Prelude.{◌≤◌, IfOk, length, ◌≡◌};
 
 use channel::{Answer, Channel};
 use event::{Event, Kind};
@@ -39,9 +39,11 @@ fn run(rt: &(impl Input + Print), words: &mut [u32]) -> io::Result<()> {
     line(rt, get)
 }
 
-// Reads words to the input's end, as many as there is room for, and answers how many. A turn reads 16,384.
+// Reads words to the input's end, as many as there is room for, and answers how many. A turn reads 16,384. Where a read
+// fails, the error is the answer, and the words have as much room as before.
 fn load(input: &mut impl Read, words: &mut [u32]) -> io::Result<usize>
-    ensures { IfOk result (λ n. n ≤ length words.new) }
+    ensures within { IfOk result (λ n. n ≤ length words.new) }
+    ensures kept { length words.new ≡ length words.old }
 {
     let mut count = 0;
     for _ in 0..64u32 {
@@ -53,7 +55,8 @@ fn load(input: &mut impl Read, words: &mut [u32]) -> io::Result<usize>
 // Reads some words to a place and on, and answers where they end.
 fn load_some(input: &mut impl Read, words: &mut [u32], from: usize) -> io::Result<usize>
     requires { from ≤ length words.old }
-    ensures { IfOk result (λ n. n ≤ length words.new) }
+    ensures within { IfOk result (λ n. n ≤ length words.new) }
+    ensures kept { length words.new ≡ length words.old }
 {
     let mut bytes = [0u8; 65536];
     let got = read_full(input, &mut bytes)? / 4;

@@ -18,7 +18,6 @@ use Rattle.event.specs.declared.Event.{Event}
 use Rattle.event.specs.declared.Event.TheVariants.{Plain, Of}
 use Rattle.pusher.specs.Record as pusher
 use Rattle.puller.specs.Record as puller
-use Rattle.io.specs.Digits.{last_digits as digits}
 use Rattle.trace.specs.Text.{text, or_else, width, decimal}
 use Rattle.trace.specs.Line.{line_of}
 use Rattle.trace.specs.Names.{kinds, kind_name, pusher_errors, puller_errors, pusher_name, puller_name, cause_name, whys, why_name, refusals, refusal_name}

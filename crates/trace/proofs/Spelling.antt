@@ -20,7 +20,7 @@ use Rattle.puller.specs.Record as puller
 use Rattle.puller.specs.Promises.{error_list as puller_list}
 use Rattle.puller.proofs.Causes.{error_numbered as puller_numbered}
 use Rattle.trace.specs.Text.{text}
-use Rattle.trace.specs.Names.{name, kinds, kind_name, pusher_errors, puller_errors, pusher_name, puller_name, cause_name, whys, why_name, refusals, refusal_name}
+use Rattle.trace.specs.Names.{kinds, kind_name, pusher_errors, puller_errors, pusher_name, puller_name, cause_name, whys, why_name, refusals, refusal_name}
 use Rattle.trace.specs.Lines.{field, fields, event_text, step_text, why_part, cause_part, end_part, end_text, refused_text}
 use Rattle.trace.specs.Answers.{cause_number, cause_values, cause_why}
 use Rattle.trace.specs.Promises.{pusher_named, puller_named, Has, Texts, Names, Whole}

@@ -54,14 +54,10 @@ addressed_spec =
     (λ c. omega (arith, order_most _ c.requires))
     (λ c. out _ _ (three c.before.before.before ∙ wide _ _ _ (rw (indices c.before.before) at c.if-indices-pusher.true)))
     (λ c.
-    let four = c.before.before in
     let shift = indices c.before.before.before.before in
     out _ _ (three c.before.before.before.before.before ∙ narrow _ _ _ (rw shift at c.if-indices-pusher.false) ∙ wide _ _ _ (rw shift at c.if-indices-pusher-2.true)))
     (λ c. rw (five c.before.before) (sym (uneven _ _ c.if-pusher-ne0.true)))
     (λ c.
-    let six = c.before.before in
     rw (five c.before.before.before.before) (sym (even _ _ c.if-pusher-ne0.false ∙ uneven _ _ c.if-pusher-ne0-2.true)))
     (λ c.
-    let seven = c.before in
-    let six = seven.before.before in
     rw (five c.before.before.before.before.before) (sym (even _ _ c.if-pusher-ne0.false ∙ even _ _ c.if-pusher-ne0-2.false ∙ one_address _))))

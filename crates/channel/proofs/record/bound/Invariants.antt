@@ -4,7 +4,6 @@ use mathlib.Core.Option.{none}
 use lib.Dec.{leb}
 use lib.ListN.{get_or}
 use Rattle.word.specs.Lowest.{lowest}
-use Rattle.channel.proofs.Widths.{wide}
 use Rattle.channel.proofs.record.bound.Given as goal
 
 -- no engine passed is too wide

@@ -20,8 +20,7 @@ loop-number-smaller-then-map-place-eq0 c = omega (arith, c.next_start-number.ens
 
 pub loop-number-preserved-then-map-place-eq0 : goal.loop-number-preserved-then-map-place-eq0
 loop-number-preserved-then-map-place-eq0 c =
-    let to = c.next_start-number.ensures in
-    (
+    let to = c.next_start-number.ensures in (
       omega arith,
       pairs_over _ _ _ c.loop-number.invariant.1 _ (omega arith)
           (λ p l m. ⊎_elim (λ e. rw (← e) c.if-map-place-eq0.true) (λ n. to.2 p (omega arith) m) (eq-or-lt_of_le {n = place_of c.loop-number.number} {m = p} l)),
@@ -37,5 +36,4 @@ loop-number-preserved c =
 
 pub returns : goal.returns
 returns c =
-    let turn = c.before in
     pairs_fine _ _ _ c.loop-number.invariant.1 (λ p l m. c.end_of_marks-end.ensures.2 p (omega arith) m)

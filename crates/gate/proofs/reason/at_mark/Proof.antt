@@ -4,7 +4,6 @@ use mathlib.Core.Bool.{Bool, true}
 use mathlib.Core.List.{List, ◌∷◌}
 use native.Mathlib.Omega.{arith}
 use borrow.Author.Rules.{rules}
-use borrow.Author.Tests.{not-true, not-false}
 use lib.ListN.{get_or}
 use Rattle.word.specs.First.{Case, ◌when◌}
 use Rattle.word.specs.Lent.{words_of}
@@ -72,19 +71,15 @@ at_mark_spec =
     (λ c κs. search rules)
     (λ c. search rules)
     (λ c.
-    let tried = c.before in
     at_command (given c.before.before.before) _ _ _ (is_start c.before.before.before) (read c.before.before.before) (found_first (own c.before.before.before) (later c.before.before.before) c.own_reason-own.ensures c.in-Against.is))
     (λ c. search rules)
     (λ c κs. search rules)
     (λ c κs. search rules)
     (λ c.
-    let told = c.before.before.before in
-    let tried = told.before in
     at_command (given c.before.before.before.before.before.before) _ _ _ (is_start c.before.before.before.before.before.before) (read c.before.before.before.before.before.before)
     (found_later (own c.before.before.before.before.before.before) (later c.before.before.before.before.before.before) c.own_reason-own.ensures c.in_default.is (found_here _ (next c.before.before.before.before.before.before) (marks c.before c.if-marked_among.true))))
     (λ c κs. search rules)
     (λ c.
-    let told = c.before.before.before.before in
     at_command (given c.before.before.before.before.before.before.before) _ _ _ (is_start c.before.before.before.before.before.before.before) (read c.before.before.before.before.before.before.before)
     (found_later (own c.before.before.before.before.before.before.before) (later c.before.before.before.before.before.before.before) c.own_reason-own.ensures c.in_default.is
     (found_past _ (next c.before.before.before.before.before.before.before) (marks c.before.before c.if-marked_among.false) (c.next_reason.ensures (pairs c.before.before.before.before.before.before.before) c.next_pairs-next.ensures (few c.before.before.before.before.before.before))))))

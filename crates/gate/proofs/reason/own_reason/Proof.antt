@@ -91,14 +91,11 @@ own_reason_spec =
     (λ c. rw (unreserved c.before.before, sym c.calls_inside.ensures ∙ c.if-calls_inside.true))
     (λ c κs. search rules)
     (λ c.
-    let called = c.before.before in
     rw (unreserved c.before.before.before.before, uncalled c.before.before, sym c.returns_outside.ensures ∙ c.if-returns_outside.true))
     (λ c κs. search rules)
     (λ c.
-    let form = c.before.before in
     rw (unreserved c.before.before.before.before.before.before, uncalled c.before.before.before.before, unreturned c.before.before, short c.before c.if-runs_short.true))
     (λ c.
-    let count = c.before.before.before.before.before.before.before.before.before.before in
     let a = c.args in
     let none = none_fails a.setting a.permit.now a.command (sym c.parameter_count-count.ensures ∙ c.if-count-eq0.true) in
     rw (fits c.before, none.0, none.1, none.2))
@@ -106,14 +103,9 @@ own_reason_spec =
     (λ c. rw (fits c.before.before.before, past c.before c.if-wraps.true))
     (λ c κs. search rules)
     (λ c.
-    let run = c.before.before in
     rw (fits c.before.before.before.before.before, past c.before.before.before c.if-wraps.false, lacks c.before c.if-any_lacking.true))
     (λ c κs. search rules)
     (λ c.
-    let level = c.before.before in
-    let run = level.before.before in
     rw (fits c.before.before.before.before.before.before.before, past c.before.before.before.before.before c.if-wraps.false, lacks c.before.before.before c.if-any_lacking.false, denies c.before c.if-any_denied.true))
     (λ c.
-    let level = c.before.before in
-    let run = level.before.before in
     rw (fits c.before.before.before.before.before.before.before, past c.before.before.before.before.before c.if-wraps.false, lacks c.before.before.before c.if-any_lacking.false, denies c.before c.if-any_denied.false)))

@@ -1,7 +1,7 @@
 use Rattle.std.proofs.Common.{◌≡◌, ◌≤◌}
 use mathlib.Core.Option.{none}
 use Rattle.word.specs.Lowest.{lowest}
-use Rattle.puller.specs.Object.{has, handle, repeats, entries}
+use Rattle.puller.specs.Object.{has, handle, repeats}
 use Rattle.puller.specs.declared.object.Repeat.TheVariants.{Nothing}
 use Rattle.puller.proofs.object.first_repeat.Given as goal
 

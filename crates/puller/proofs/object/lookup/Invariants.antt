@@ -1,7 +1,7 @@
 use Rattle.std.proofs.Common.{◌≡◌, ◌≤◌}
 use mathlib.Core.Option.{none}
 use Rattle.word.specs.Lowest.{lowest}
-use Rattle.puller.specs.Object.{has, entries}
+use Rattle.puller.specs.Object.{has}
 use Rattle.puller.proofs.object.lookup.Given as goal
 
 -- no entry passed has the handle

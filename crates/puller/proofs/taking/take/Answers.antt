@@ -47,8 +47,8 @@ returns-in_default c =
     taken_by forwards
     (forwards_at _ _ (omega arith)
     (elim c.in_default.branch [
-      in_default-via-then-number-lt384 w ↦ inl (omega arith)
-    | in_default-via-else-number-lt384+else-number-lt509 w ↦ inr (omega arith)
+      | in_default-via-then-number-lt384 w ↦ inl (omega arith)
+      | in_default-via-else-number-lt384+else-number-lt509 w ↦ inr (omega arith)
     ]))
     c.forward.ensures refl
 

@@ -2,7 +2,7 @@ use Prim.Native.Nat.{ℕ, ◌*◌, ◌%◌, ◌^◌, ◌≤◌}
 use mathlib.Core.Path.{◌≡◌, sym, ◌∙◌}
 use native.Mathlib.Omega.{arith}
 use lib.Dec.{ltb}
-use lib.Pow.{pow_mono, shl_exact}
+use lib.Pow.{shl_exact}
 use borrow.Author.Tests.{lt-ltb, le-ltb}
 use Rattle.word.specs.First.{choose}
 use Rattle.word.proofs.First.{choose_true, choose_false}
@@ -19,8 +19,8 @@ unfolding next_index
 returns c =
     -- the order that the index is taken by, which is at most 12
     let by_order : (c.if-order-gt12.order ≡ choose (ltb 12 c.args.order) 12 c.args.order) × (c.if-order-gt12.order ≤ 12) =
-      elim c.if-order-gt12.branch [
-        then-order-gt12 w ↦ (w.order-is ∙ sym (choose_true (lt-ltb _ _ w.if-order-gt12.true) _ _), omega arith)
+    elim c.if-order-gt12.branch [
+      | then-order-gt12 w ↦ (w.order-is ∙ sym (choose_true (lt-ltb _ _ w.if-order-gt12.true) _ _), omega arith)
       | else-order-gt12 w ↦ (w.order-is ∙ sym (choose_false (le-ltb _ _ w.if-order-gt12.false) _ _), omega arith)
-      ] in
+    ] in
     rw (power _ by_order.1, by_order.0)

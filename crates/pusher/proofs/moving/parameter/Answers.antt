@@ -20,8 +20,8 @@ unfolding parameter_of
 returns c =
     -- the method is not discarded, by either test of the two
     let kept : c.args.setup.setting.sli && not c.args.pusher.sli.active ≡ false =
-      elim c.else-setup.branch [
-        else-setup-via-then-setup+else-not-pusher w ↦ rw w.if-setup.true w.if-not-pusher.false
+    elim c.else-setup.branch [
+      | else-setup-via-then-setup+else-not-pusher w ↦ rw w.if-setup.true w.if-not-pusher.false
       | else-setup-via-else-setup w ↦ rw w.if-setup.false
-      ] in
+    ] in
     rw (choose_false (ap not (sym c.present.ensures ∙ c.if-not-present.false)), choose_false kept, c.used_up-next.ensures)

@@ -22,10 +22,10 @@ unfolding act
 returns-then-pusher c l =
     -- the limit has stopped nothing: in IB mode, or within it
     let low : (InIb c.args.setup → ⊥) → c.args.pusher.get ≤ c.args.setup.limit =
-      λ n. elim c.else-mode.branch [
-        else-mode-via-then-mode+else-setup-get w ↦ w.if-setup-get.false
+    λ n. elim c.else-mode.branch [
+      | else-mode-via-then-mode+else-setup-get w ↦ w.if-setup-get.false
       | else-mode-via-else-mode w ↦ absurd (n w.if-mode.false)
-      ] in
+    ] in
     (rw c.advance-next.ensures at c.count.ensures) ∙ ap (act _ _ _) (sym (awaits_count _ _ _ low c.if-words-place.false c.if-pusher.true))
 
 pub parameter-requires : goal.parameter-requires
@@ -36,10 +36,10 @@ unfolding act
 returns-then-pusher-ne0 c l =
     -- the limit has stopped nothing: in IB mode, or within it
     let low : (InIb c.args.setup → ⊥) → c.args.pusher.get ≤ c.args.setup.limit =
-      λ n. elim c.else-mode.branch [
-        else-mode-via-then-mode+else-setup-get w ↦ w.if-setup-get.false
+    λ n. elim c.else-mode.branch [
+      | else-mode-via-then-mode+else-setup-get w ↦ w.if-setup-get.false
       | else-mode-via-else-mode w ↦ absurd (n w.if-mode.false)
-      ] in
+    ] in
     (rw c.advance-next.ensures at c.parameter.ensures) ∙ ap (act _ _ _) (sym (inside_run _ _ _ low c.if-words-place.false c.if-pusher.false c.if-pusher-ne0.true))
 
 pub returns : goal.returns
@@ -47,8 +47,8 @@ unfolding act
 returns c l =
     -- the limit has stopped nothing: in IB mode, or within it
     let low : (InIb c.args.setup → ⊥) → c.args.pusher.get ≤ c.args.setup.limit =
-      λ n. elim c.else-mode.branch [
-        else-mode-via-then-mode+else-setup-get w ↦ w.if-setup-get.false
+    λ n. elim c.else-mode.branch [
+      | else-mode-via-then-mode+else-setup-get w ↦ w.if-setup-get.false
       | else-mode-via-else-mode w ↦ absurd (n w.if-mode.false)
-      ] in
+    ] in
     (rw c.advance-next.ensures at c.command.ensures) ∙ ap (act _ _ _) (sym (between_runs _ _ _ low c.if-words-place.false c.if-pusher.false c.if-pusher-ne0.false))

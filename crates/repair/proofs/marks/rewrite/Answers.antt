@@ -17,11 +17,10 @@ put-count-requires c =
     )
 
 pub loop-place-preserved : goal.loop-place-preserved
-loop-place-preserved c =
-    (
-      omega arith,
-      passed_more c.args.map.now c.args.list.now c.args.work.now c.loop-place.place c.loop-place.map c.loop-place.list c.loop-place.work c.loop-place.count c.loop-place.invariant.1 (omega arith) c.requires.1 c.requires.2 _ _ _ _ c.put-count.ensures,
-    )
+loop-place-preserved c = (
+  omega arith,
+  passed_more c.args.map.now c.args.list.now c.args.work.now c.loop-place.place c.loop-place.map c.loop-place.list c.loop-place.work c.loop-place.count c.loop-place.invariant.1 (omega arith) c.requires.1 c.requires.2 _ _ _ _ c.put-count.ensures,
+)
 
 pub shape_of-map : goal.shape_of-map
 shape_of-map c = c.loop-place.invariant.1.map_long

@@ -56,5 +56,4 @@ repair_spec =
     (λ c. search rules)
     (λ c. search rules)
     (λ c.
-    let called = c.before.before.before.before.before.before in
     mended _ _ _ (fine (told c.before.before.before.before.before.before.before.before.before.before.before.before)) (few c.before.before.before.before.before.before.before.before.before.before.before.before) (tested c.before.before.before.before.before.before.before.before.before.before.before.before) (spacious c.before.before.before.before.before.before.before.before.before.before) c.mend-count.ensures))

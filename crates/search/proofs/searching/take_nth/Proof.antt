@@ -69,13 +69,12 @@ take_nth_spec =
     tie.close
     (tie.spec
     (λ c fs h.
-    let s = c.before.before.before.before in
     rw (take_past (given c.before.before.before.before) fs c.args.turn (omega (arith, h.counted, c.if-count-turn.true))) h)
     (λ c. let s = start c in omega (arith, turn_there c, held s, small s))
     (λ c. let s = start c.before in omega (arith, turn_there c.before, held s))
     (λ c κs. search rules)
     (λ c κs. search rules)
-    (λ c. let e = c.before.before.before in omega (arith, pair_within c.before.before.before, small (start c.before.before.before)))
+    (λ c. omega (arith, pair_within c.before.before.before, small (start c.before.before.before)))
     (λ c κs. search rules)
     (λ c κs. search rules)
     (λ c. search rules)

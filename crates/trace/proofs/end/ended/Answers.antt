@@ -36,9 +36,6 @@ returns-then-steps-ge-BUDGET c =
 pub returns : goal.returns
 unfolding ending_of is_stopped cause_of choose
 returns c =
-    let idle = c.before in
-    let puller = idle.before.before in
-    let pusher = puller.before.before.before in
     rw (
       sym c.stopped.ensures ∙ c.if-stopped.false,
       sym c.stopped-2.ensures ∙ c.if-stopped-2.false,

@@ -26,9 +26,9 @@ loop-i-preserved c =
       refl,
       omega arith,
       elim c.if-byte-eq32.branch [
-        then-byte-eq32+else-left-eq0 w ↦ before_name names i (omega arith) line after next left w.if-byte-eq32.true w.if-left-eq0.false w.line-is w.left-is
-      | else-byte-eq32+then-left-eq0-2 w ↦ own_byte names i (omega arith) line after next left w.if-byte-eq32.false w.if-left-eq0-2.true (w.line-is ∙ w.push-line.ensures) w.left-is
-      | else-byte-eq32+else-left-eq0-2 w ↦ other_byte names i (omega arith) line after next left w.if-byte-eq32.false w.if-left-eq0-2.false w.line-is w.left-is
+        | then-byte-eq32+else-left-eq0 w ↦ before_name names i (omega arith) line after next left w.if-byte-eq32.true w.if-left-eq0.false w.line-is w.left-is
+        | else-byte-eq32+then-left-eq0-2 w ↦ own_byte names i (omega arith) line after next left w.if-byte-eq32.false w.if-left-eq0-2.true (w.line-is ∙ w.push-line.ensures) w.left-is
+        | else-byte-eq32+else-left-eq0-2 w ↦ other_byte names i (omega arith) line after next left w.if-byte-eq32.false w.if-left-eq0-2.false w.line-is w.left-is
       ]
           ∙ c.loop-i.invariant.2,
     )

@@ -5,7 +5,6 @@ use mathlib.Core.List.{List, [], ◌∷◌, ◌++◌}
 use lib.ListN.{length}
 use lib.Seq.{sets}
 use borrow.Author.Rules.{rules}
-use borrow.Author.Tests.{not-true, not-false}
 use Rattle.word.specs.Setting.{check_of}
 use Rattle.word.specs.Form.{usable}
 use Rattle.word.specs.Reading.{form, values}

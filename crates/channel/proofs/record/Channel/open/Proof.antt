@@ -39,32 +39,26 @@ open_spec =
     (λ c. search rules)
     (λ c κs. search rules)
     (λ c.
-    let told = c.before.before in
     c.refused.ensures ∙ sym (answers _ _ _ _ _ _ _ (by_setting _ _ _ _ _ _ _ (sym c.check-check.ensures ∙ c.in-Refused.is))))
     (λ c. search rules)
     (λ c κs. search rules)
     (λ c κs. search rules)
     (λ c.
-    let told = c.before.before.before in
     c.refused-then-no_order.ensures ∙ sym (answers _ _ _ _ _ _ _ (by_order _ _ _ _ _ _ (fine c.before.before.before) (sym c.no_order.ensures ∙ c.if-no_order.true))))
     (λ c κs. search rules)
     (λ c. search rules)
     (λ c κs. search rules)
     (λ c.
-    let told = c.before.before in
     c.refused-in-Refused-check.ensures
     ∙ sym (answers _ _ _ _ _ _ _ (by_sli _ _ _ _ _ _ (fine c.before.before.before.before.before) (ordered c.before.before.before) _ (sym c.check-check-2.ensures ∙ c.in-Refused-check.is))))
     (λ c. search rules)
     (λ c κs. search rules)
     (λ c.
-    let two = c.before.before in
     c.refused-then-mask-gt4095.ensures
     ∙ sym (answers _ _ _ _ _ _ _ (by_mask _ _ _ _ _ _ (fine c.before.before.before.before.before.before) (ordered c.before.before.before.before) (whole c.before.before) (lt-ltb _ _ c.if-mask-gt4095.true))))
     (λ c κs. search rules)
     (λ c κs. search rules)
     (λ c.
-    let three = c.before.before.before in
-    let two = three.before in
     c.refused-then-no_table.ensures
     ∙ sym
     (answers _ _ _ _ _ _ _
@@ -73,13 +67,11 @@ open_spec =
     (λ c. search rules)
     (λ c κs. search rules)
     (λ c.
-    let told = c.before.before in
     rw c.blank.ensures
     (sym (answers _ _ _ _ _ _ _ (passed c.before.before.before (sym c.first_repeat-repeat.ensures ∙ c.in-Entry.is)))))
     (λ c. search rules)
     (λ c κs. search rules)
     (λ c κs. search rules)
     (λ c.
-    let told = c.before.before in
     rw (c.resting.ensures, c.held.ensures)
     (sym (answers _ _ _ _ _ _ _ (passed c.before.before.before.before (sym c.first_repeat-repeat.ensures ∙ c.in_default-repeat.is))))))

@@ -1,7 +1,6 @@
 use mathlib.Core.Path.{◌≡◌, sym, ◌∙◌}
 use mathlib.Core.Bool.{true}
 use borrow.Author.Rules.{rules}
-use borrow.Author.Tests.{not-true, not-false}
 use Rattle.channel.specs.State.{well_formed}
 use Rattle.channel.proofs.Puts.{by_state, by_put, puts}
 use Rattle.channel.proofs.record.Channel.set_put.Statement.{statement}

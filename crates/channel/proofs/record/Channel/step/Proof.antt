@@ -1,7 +1,6 @@
 use mathlib.Core.Path.{◌≡◌, sym, ◌∙◌}
 use mathlib.Core.Bool.{true}
 use borrow.Author.Rules.{rules}
-use borrow.Author.Tests.{not-true, not-false}
 use Rattle.channel.specs.Loan.{Loan, to_step}
 use Rattle.channel.specs.State.{well_formed}
 use Rattle.channel.proofs.Steps.{by_state, by_words, by_semaphores, by_table, refused, steps}

@@ -1,7 +1,6 @@
 use mathlib.Core.Path.{◌≡◌, sym, ◌∙◌}
 use mathlib.Core.Bool.{true, and-false}
 use borrow.Author.Rules.{rules}
-use borrow.Author.Tests.{not-true, not-false}
 use Rattle.channel.specs.State.{setup_fits, within, other_widths}
 use Rattle.channel.proofs.Widths.{others, well_formed_lem}
 use Rattle.channel.proofs.record.Channel.well_formed.Statement.{statement}
@@ -30,7 +29,6 @@ well_formed_spec =
     rw (well_formed_lem c.args.self (typed c.before.before.before.before.before.before.before.before.before.before), sym c.running.ensures ∙ c.if-not-running.true, and-false, and-false))
     (λ c κs. search rules)
     (λ c.
-    let three = c.before in
     let address = sym c.addressed.ensures ∙ c.if-not-addressed.false in
     let run = sym c.running.ensures ∙ c.if-not-running.false in
     rw (well_formed_lem c.args.self (typed c.before.before.before.before.before.before.before.before.before.before.before.before), fits c.before.before.before.before.before.before.before.before.before, address, run) c.bound.ensures))

@@ -9,6 +9,6 @@ unfolding with_put
 returns c =
     rw c.with_halves.ensures
     (elim c.if-self.branch [
-      then-self w ↦ rw (w.pusher-is, choose_true (eq-eqb _ _ w.if-self.true))
-    | else-self w ↦ rw (w.pusher-is, choose_false (ne_eqb _ _ w.if-self.false))
+      | then-self w ↦ rw (w.pusher-is, choose_true (eq-eqb _ _ w.if-self.true))
+      | else-self w ↦ rw (w.pusher-is, choose_false (ne_eqb _ _ w.if-self.false))
     ])
