@@ -83,6 +83,7 @@ impl Channel {
     }
 }
 
+#[tactic(auto, unfolding(crate::specs::Opening::opened))]
 fn refused(refusal: Refusal) -> Opened
     ensures { result ≡ opened (Refused refusal) blank_channel }
 {

@@ -131,6 +131,7 @@ fn act(
 }
 
 // Whether an error of either half has stopped the channel.
+#[tactic(auto, unfolding(crate::specs::Stepping::is_stopped))]
 pub(crate) fn stopped(pusher: Pusher, puller: Puller) -> bool
     ensures { result ≡ is_stopped pusher puller }
 {
@@ -155,6 +156,7 @@ fn wait(level: Level, pusher: Pusher, puller: Puller, semaphores: &[u32]) -> Act
 }
 
 // What follows from a move of the pusher: the puller takes what it submits in the same step.
+#[tactic(auto, unfolding(crate::specs::Stepping::finished))]
 fn finish(
     level: Level,
     pushed: Pushed,

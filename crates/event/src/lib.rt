@@ -27,6 +27,7 @@ pub enum Kind {
 
 impl Kind {
     // A kind's number: its place in their list (S30).
+    #[tactic(auto, unfolding(crate::specs::Event::number))]
     pub fn number(self) -> u32
         ensures { Numbers self result }
     {

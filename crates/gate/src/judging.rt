@@ -143,6 +143,7 @@ fn first_wide(map: &[u8]) -> Verdict
 }
 
 // Reason 2: where there is a word, the first is a start in main.
+#[tactic(auto, unfolding(rules::specs::Judging::start_verdict, word::specs::First::choose))]
 fn start_verdict(map: &[u8]) -> Verdict
     ensures { result ≡ start_verdict map.now }
 {

@@ -20,6 +20,7 @@ pub fn nexts(command: Reading, place: u32, inside: bool) -> Nexts
 }
 
 // The same at any place whose sum with a count does not wrap.
+#[tactic(auto, unfolding(word::specs::Reading::parameter_count, rules::specs::Next::nexts, rules::specs::Next::held))]
 pub(crate) fn next_pairs(command: Reading, place: usize, inside: bool) -> Nexts
     requires { place < 2 ^ 63 }
     ensures { result ≡ held (nexts command place inside) }
@@ -64,6 +65,7 @@ fn at_target(target: u32, inside: bool) -> Nexts
     one_next((target / 4) as usize, inside)
 }
 
+#[tactic(auto, unfolding(rules::specs::Next::held))]
 fn one_next(place: usize, inside: bool) -> Nexts
     ensures { result ≡ held (place in_state inside ∷ []) }
 {

@@ -10,6 +10,7 @@ use rules::Methods;
 use word::{Reading, Setting, present};
 
 // How many parameters follow a command: only a run has any.
+#[tactic(auto, unfolding(word::specs::Reading::parameter_count))]
 pub(crate) fn parameter_count(command: Reading) -> u32
     ensures { result ≡ parameter_count command }
 {
@@ -22,6 +23,7 @@ pub(crate) fn parameter_count(command: Reading) -> u32
 }
 
 // The methods that they go to.
+#[tactic(auto, unfolding(rules::specs::Parameters::methods_of))]
 pub(crate) fn methods_of(command: Reading) -> Methods
     ensures { result ≡ methods_of command }
 {

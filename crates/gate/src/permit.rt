@@ -6,6 +6,7 @@ ghost use Rattle.rules.specs.Permit.{permits, count_of};
 pub(crate) const LIST_BYTES: usize = 2048;
 
 // Whether the list permits a method, given by its number. Past its end it permits nothing.
+#[tactic(auto, unfolding(rules::specs::Permit::permits))]
 pub(crate) fn permitted(permit: &[u8], subchannel: u32, method: u32) -> bool
     ensures { result ≡ permits permit.now subchannel method }
 {

@@ -176,6 +176,7 @@ fn arrival_by(words: usize, map: &[u8], pair: Pair) -> Finding
 
 // What speaks against going on at a pair, of so many words: it lies past the end, or is the end, which
 // needs no mark, inside a subroutine, or it lacks its mark. Where no map is asked, none does.
+#[tactic(auto, unfolding(word::specs::First::first, word::specs::First::choose, rules::specs::Reason::finding_of))]
 pub fn arrival(words: usize, pair: Pair, lacks: bool) -> Finding
     ensures { Arrives words pair lacks result }
 {

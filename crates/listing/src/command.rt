@@ -65,6 +65,7 @@ fn item_of(reading: Reading, words: usize, place: usize) -> Listed
 }
 
 // How many words a command takes: its own, and its parameters.
+#[tactic(auto, unfolding(crate::specs::Listing::span, word::specs::Reading::parameter_count, word::specs::Writing::own_words, word::specs::Writing::next_word, word::specs::Reading::form, word::specs::Reading::number, word::specs::Form::forms, word::specs::Form::increasing, word::specs::Form::non_increasing, word::specs::Form::long))]
 fn span_of(reading: Reading) -> usize
     ensures { result ≡ span reading }
 {

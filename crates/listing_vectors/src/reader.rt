@@ -4,7 +4,7 @@ ghost use Rattle.listing.specs.Outcomes.{ListsAt};
 use listing::{Listed, Listing};
 use word::Setting;
 
-// Its contract says nothing of a reader, so that whoever calls it needs no walk by hand.
+// Its contract says nothing of a reader: it is `list_at`'s.
 pub fn through_reader(setting: Setting, words: &[u32], place: usize) -> Listed
     ensures { ListsAt setting words.now place result }
 {

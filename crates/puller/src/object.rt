@@ -42,6 +42,7 @@ pub fn lookup(table: &[u32], handle: u32) -> Found
 }
 
 // The object that an entry describes.
+#[tactic(auto, unfolding(crate::specs::Object::object_at))]
 fn object_at(table: &[u32], entry: usize) -> Object
     requires { 4 * entry + 3 < length table.now }
     ensures { result ≡ object_at table.now entry }

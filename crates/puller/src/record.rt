@@ -29,6 +29,7 @@ impl PullerError {
     pub const SEMAPHORE_4: u32 = 6;
 
     // An error's number, 0 for none.
+    #[tactic(auto, unfolding(crate::specs::Record::number))]
     pub fn number(self) -> u32
         ensures { Numbers self result }
     {
@@ -89,6 +90,7 @@ pub struct Puller {
 
 impl Puller {
     // Whether an error has stopped the puller.
+    #[tactic(auto, unfolding(crate::specs::Record::halts))]
     pub fn stopped(self) -> bool
         ensures { Halts self result }
     {

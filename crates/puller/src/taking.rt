@@ -56,6 +56,7 @@ pub fn take(
 }
 
 // Reads the semaphore of an active acquire again (P16, P31): whether there is such a word, and its value.
+#[tactic(auto, unfolding(crate::specs::Taking::tried, crate::specs::Taking::retry_of))]
 pub fn retry(level: Level, puller: Puller, semaphores: &[u32]) -> Taken
     ensures { Retries level puller semaphores.now result }
 {
@@ -108,6 +109,7 @@ fn failed(puller: Puller, error: PullerError) -> Taken
     }
 }
 
+#[tactic(auto, unfolding(crate::specs::Taking::looking_up, crate::specs::Taking::bind_to, crate::specs::Taking::bind_of, word::specs::First::choose))]
 fn bind(puller: Puller, method: Method, table: &[u32]) -> Taken
     ensures { result ≡ bind_of puller method table.now }
 {
@@ -144,6 +146,7 @@ fn refer(puller: Puller, method: Method) -> Taken
     done(next, Kind::Ref, method)
 }
 
+#[tactic(auto, unfolding(crate::specs::Taking::looking_up, crate::specs::Taking::dma_to, crate::specs::Taking::dma_of, word::specs::First::choose))]
 fn dma(level: Level, puller: Puller, method: Method, table: &[u32]) -> Taken
     ensures { result ≡ dma_of level.number puller method table.now }
 {
@@ -161,6 +164,7 @@ fn dma(level: Level, puller: Puller, method: Method, table: &[u32]) -> Taken
 
 // Whether an object can't be a semaphore's: below level 4 it is of class 2, write-only, and has
 // its page table.
+#[tactic(auto, unfolding(crate::specs::Taking::unfit_for))]
 fn unfit(level: Level, object: Object) -> bool
     ensures { result ≡ unfit_for level.number object }
 {
@@ -201,6 +205,7 @@ fn offset(level: Level, puller: Puller, method: Method) -> Taken
 
 // Whether there is no semaphore to acquire or release: below level 4 no object is bound, from
 // there no offset has been stored.
+#[tactic(auto, unfolding(crate::specs::Taking::unready_at, word::specs::First::choose))]
 fn unready(level: Level, puller: Puller) -> bool
     ensures { result ≡ unready_at level.number puller }
 {
@@ -211,6 +216,7 @@ fn unready(level: Level, puller: Puller) -> bool
 }
 
 // Where the semaphore is, by the mode: its word's place in the memory, whatever the object.
+#[tactic(auto, unfolding(crate::specs::Taking::place_in))]
 fn place_in(puller: Puller, mode: AcquireMode) -> usize
     ensures { result ≡ place_in puller mode }
 {
@@ -229,6 +235,7 @@ fn long_place(puller: Puller) -> usize
 }
 
 // The error of a semaphore past the end of the memory.
+#[tactic(auto, unfolding(crate::specs::Taking::past_end_error, word::specs::First::choose))]
 fn past_end(level: Level, mode: AcquireMode) -> PullerError
     ensures { result ≡ past_end_error level.number mode }
 {
@@ -246,6 +253,7 @@ fn past_end(level: Level, mode: AcquireMode) -> PullerError
 
 // Whether a word lets an acquire of a value pass. 'Greater or equal' is said of the difference, read
 // as signed: it wraps, and is not negative below 2^31.
+#[tactic(auto, unfolding(crate::specs::Taking::passes_in))]
 fn passes_in(mode: AcquireMode, word: u32, value: u32) -> bool
     ensures { result ≡ passes_in mode word value }
 {
@@ -257,6 +265,7 @@ fn passes_in(mode: AcquireMode, word: u32, value: u32) -> bool
 }
 
 // What an acquire of a value comes to at a place of the memory.
+#[tactic(auto, unfolding(crate::specs::Taking::trial_of, word::specs::First::choose))]
 fn trial_of(semaphores: &[u32], mode: AcquireMode, place: usize, value: u32) -> Trial
     ensures { result ≡ trial_of mode place value semaphores.now }
 {
@@ -270,6 +279,7 @@ fn trial_of(semaphores: &[u32], mode: AcquireMode, place: usize, value: u32) -> 
 }
 
 // An acquire of a value: it fails, goes on, or waits.
+#[tactic(auto, unfolding(crate::specs::Taking::tried, crate::specs::Taking::acquire_in))]
 fn acquire_in(
     level: Level,
     puller: Puller,
@@ -287,6 +297,7 @@ fn acquire_in(
     }
 }
 
+#[tactic(auto, unfolding(crate::specs::Taking::acquire_of, word::specs::First::choose))]
 fn acquire(level: Level, puller: Puller, method: Method, semaphores: &[u32]) -> Taken
     ensures { result ≡ acquire_of level.number puller method semaphores.now }
 {
@@ -303,6 +314,7 @@ fn acquire(level: Level, puller: Puller, method: Method, semaphores: &[u32]) -> 
     )
 }
 
+#[tactic(auto, unfolding(crate::specs::Taking::place_in, crate::specs::Taking::release_of, word::specs::First::choose))]
 fn release(level: Level, puller: Puller, method: Method, semaphores: &mut [u32]) -> Taken
     ensures { Writes (release_of level.number puller method semaphores.old) result semaphores.new }
 {
@@ -340,6 +352,7 @@ fn long(level: Level, puller: Puller, method: Method, semaphores: &mut [u32], cl
 }
 
 // Bits 39-32 of the long semaphore's address.
+#[tactic(auto, unfolding(crate::specs::Taking::high_of, word::specs::First::choose))]
 fn address_high(puller: Puller, method: Method) -> Taken
     ensures { result ≡ high_of puller method }
 {
@@ -354,6 +367,7 @@ fn address_high(puller: Puller, method: Method) -> Taken
 }
 
 // Its bits 31-0.
+#[tactic(auto, unfolding(crate::specs::Taking::low_of, word::specs::First::choose))]
 fn address_low(puller: Puller, method: Method) -> Taken
     ensures { result ≡ low_of puller method }
 {
@@ -438,6 +452,7 @@ fn write_long(semaphores: &mut [u32], place: usize, sequence: u32, clock: u64)
     semaphores[place + 3] = (clock / 0x1_0000_0000) as u32;
 }
 
+#[tactic(auto, unfolding(crate::specs::Taking::looking_up, crate::specs::Taking::forward_object_of))]
 fn forward_object(puller: Puller, method: Method, table: &[u32]) -> Taken
     ensures { result ≡ forward_object_of puller method table.now }
 {
@@ -449,6 +464,7 @@ fn forward_object(puller: Puller, method: Method, table: &[u32]) -> Taken
 }
 
 // Hands the method on to the engine of its subchannel, with a parameter.
+#[tactic(auto, unfolding(crate::specs::Taking::forward_of, word::specs::First::choose))]
 fn forward(puller: Puller, method: Method, parameter: u32) -> Taken
     ensures { result ≡ forward_of puller method parameter }
 {

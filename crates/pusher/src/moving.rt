@@ -88,6 +88,7 @@ fn word(setup: Setup, pusher: Pusher, words: &[u32]) -> Pushed
 
 // The advance (S11), which can't overflow behind a lent word; in IB mode dma_mget follows it where the
 // words are main (S12).
+#[tactic(auto, unfolding(crate::specs::Moving::advanced, word::specs::First::choose))]
 fn advance(setup: Setup, pusher: Pusher) -> Pusher
     requires { pusher.get + 4 ≤ 0xffffffffffffffff }
     ensures { result ≡ advanced setup pusher }
@@ -108,6 +109,7 @@ fn advance(setup: Setup, pusher: Pusher) -> Pusher
 }
 
 // A long form's count: the low 24 bits.
+#[tactic(auto, unfolding(crate::specs::Moving::counted))]
 fn count(pusher: Pusher, word: u32) -> Pushed
     ensures { result ≡ counted pusher word }
 {
@@ -191,6 +193,7 @@ fn command(setup: Setup, pusher: Pusher, word: u32) -> Pushed
 }
 
 // Every other command.
+#[tactic(auto, unfolding(crate::specs::Moving::commanded))]
 fn one_word(pusher: Pusher, reading: Reading) -> Pushed
     requires { (number reading ≡ 5 → ⊥) × Within reading }
     ensures { result ≡ commanded pusher reading }
@@ -217,6 +220,7 @@ fn one_word(pusher: Pusher, reading: Reading) -> Pushed
 }
 
 // A run of parameters. With count 0 it does nothing.
+#[tactic(auto, unfolding(crate::specs::Moving::begun, word::specs::First::choose))]
 fn begin(pusher: Pusher, count: u32, subchannel: u32, method: u32, increasing: bool) -> Pushed
     requires { method < 0x2000 }
     ensures { result ≡ begun pusher count subchannel method increasing }
@@ -234,6 +238,7 @@ fn begin(pusher: Pusher, count: u32, subchannel: u32, method: u32, increasing: b
 }
 
 // An SLI conditional: what follows is for this card if a bit of its mask is the channel's too.
+#[tactic(auto, unfolding(crate::specs::Moving::conditional))]
 fn condition(pusher: Pusher, mask: u32) -> Pushed
     ensures { result ≡ conditional pusher mask }
 {

@@ -39,6 +39,7 @@ impl PusherError {
     pub const PROTECTION: u32 = 6;
 
     // An error's number, 0 for none.
+    #[tactic(auto, unfolding(crate::specs::Record::number))]
     pub fn number(self) -> u32
         ensures { Numbers self result }
     {
@@ -109,6 +110,7 @@ pub struct Pusher {
 
 impl Pusher {
     // Whether an error has stopped the pusher.
+    #[tactic(auto, unfolding(crate::specs::Record::halts))]
     pub fn stopped(self) -> bool
         ensures { Halts self result }
     {

@@ -45,6 +45,7 @@ fn take_byte(work: &mut [u64], place: usize) -> u8
 }
 
 // The mark of a pair, if its entry says that it was found.
+#[tactic(auto, unfolding(word::specs::First::choose))]
 fn mark(entry: u64, mark: u8) -> u8
     ensures { result ≡ choose (eqb (entry % 2 ^ 32) 0) 0 mark }
 {
@@ -55,6 +56,7 @@ fn mark(entry: u64, mark: u8) -> u8
 }
 
 // An entry of the list.
+#[tactic(auto, unfolding(crate::specs::Changes::change))]
 fn change(place: usize, old: u8, new: u8) -> u64
     requires { place < 2 ^ 32 }
     ensures { result ≡ change place old new }

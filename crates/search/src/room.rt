@@ -70,6 +70,7 @@ fn find(room: &mut [u64], end: usize, from: usize, pair: Pair, count: usize) -> 
 }
 
 // A pair's number: its entry.
+#[tactic(auto, unfolding(rules::specs::Search::number_of, word::specs::First::choose))]
 fn number_of(pair: Pair) -> usize
     requires { pair.place < 2 ^ 30 }
     ensures { result ≡ number_of pair }

@@ -29,6 +29,7 @@ pub enum Ending {
 }
 
 // Whether a run has ended after so many steps, and how.
+#[tactic(auto, unfolding(crate::specs::End::ending_of, channel::specs::Stepping::is_stopped, crate::specs::End::cause_of, word::specs::First::choose))]
 pub fn ended(channel: Channel, steps: u32) -> Ending
     ensures { Ends channel steps result }
 {

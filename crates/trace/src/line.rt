@@ -14,6 +14,7 @@ pub struct Line {
     pub length: usize,
 }
 
+#[tactic(auto, unfolding(crate::specs::Line::line_of))]
 pub(crate) fn empty() -> Line
     ensures { result ≡ line_of [] }
 {

@@ -54,6 +54,7 @@ fn least(a: usize, b: usize) -> usize
 }
 
 // The run of an input of so many bytes, before its first step.
+#[tactic(auto, unfolding(crate::specs::LineByLine::begin_of, word::specs::First::first, word::specs::Setting::refused_or, word::specs::First::choose))]
 pub fn begin(bytes: usize) -> Trace
     ensures { Begins bytes result }
 {
@@ -89,6 +90,7 @@ pub fn begin(bytes: usize) -> Trace
 }
 
 // The next line of a run, over its words and the semaphore words. After the last it is empty.
+#[tactic(auto, unfolding(crate::specs::LineByLine::by_stage))]
 pub fn next_line(trace: Trace, words: &[u32], semaphores: &mut [u32]) -> Told
     ensures { Tells trace words.now semaphores.old result semaphores.new }
 {
@@ -129,6 +131,7 @@ fn run(trace: Trace, words: &[u32], semaphores: &mut [u32]) -> Told
     step(trace, words, semaphores)
 }
 
+#[tactic(auto, unfolding(crate::specs::LineByLine::answered))]
 fn step(trace: Trace, words: &[u32], semaphores: &mut [u32]) -> Told
     requires { trace.steps < 65536 }
     ensures { Leaves (stepped_on trace (step_of trace.channel (lending words.now semaphores.old))) result semaphores.new }

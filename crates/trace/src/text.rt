@@ -67,6 +67,7 @@ fn kind_in(line: Line, kind: Kind) -> Line
     name_in(line, names, kind.number())
 }
 
+#[tactic(auto, unfolding(crate::specs::Text::text, crate::specs::Lines::end_part))]
 fn end_in(line: Line, end: End) -> Line
     ensures { result ≡ added line (end_part end) }
 {

@@ -14,6 +14,7 @@ pub fn upborliya_judge(level: u32, sli: u32, words: &[u8], map: &[u8], permit: &
 }
 
 // Reason, refusal, why, count and place, from the lowest bits up.
+#[tactic(auto, unfolding(crate::specs::Packed::packed))]
 fn pack(judgement: Judgement) -> u64
     ensures { result ≡ packed judgement }
 {
@@ -25,6 +26,7 @@ fn pack(judgement: Judgement) -> u64
     place << 40 | (count << 24 | (why << 16 | (refusal << 8 | reason_in(verdict) as u64)))
 }
 
+#[tactic(auto, unfolding(crate::specs::Packed::reason_in))]
 fn reason_in(verdict: Verdict) -> u8
     ensures { result ≡ reason_in verdict }
 {
@@ -36,6 +38,7 @@ fn reason_in(verdict: Verdict) -> u8
     }
 }
 
+#[tactic(auto, unfolding(crate::specs::Packed::refusal_in))]
 fn refusal_in(verdict: Verdict) -> u8
     ensures { result ≡ refusal_in verdict }
 {
@@ -47,6 +50,7 @@ fn refusal_in(verdict: Verdict) -> u8
     }
 }
 
+#[tactic(auto, unfolding(crate::specs::Packed::why_in))]
 fn why_in(verdict: Verdict) -> u8
     ensures { result ≡ why_in verdict }
 {
@@ -58,6 +62,7 @@ fn why_in(verdict: Verdict) -> u8
     }
 }
 
+#[tactic(auto, unfolding(crate::specs::Packed::place_in))]
 fn place_in(verdict: Verdict) -> u32
     ensures { result ≡ place_in verdict }
 {

@@ -18,6 +18,7 @@ pub fn upborliya_read(level: u32, mode: u32, sli: u32, word: u32, next: u32) -> 
 }
 
 // The reading's number lowest, and above it what it says.
+#[tactic(auto, unfolding(crate::specs::Packed::packed_reading))]
 fn pack_reading(reading: Reading) -> u64
     ensures { result ≡ packed_reading reading }
 {
@@ -48,6 +49,7 @@ fn pack_reading(reading: Reading) -> u64
 }
 
 // A run: method and subchannel as a word has them, from bit 24 on, and the count above.
+#[tactic(auto, unfolding(crate::specs::Packed::packed_run))]
 fn pack_run(form: u64, count: u32, subchannel: u32, method: u32) -> u64
     requires { form ≤ 10 }
     ensures { result ≡ packed_run form count subchannel method }

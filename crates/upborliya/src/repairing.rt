@@ -23,6 +23,7 @@ pub fn upborliya_repair(
 }
 
 // As the gatekeeper's: the refusal from bit 8 on, the count from bit 24 on.
+#[tactic(auto, unfolding(crate::specs::Packed::packed_repair))]
 fn pack_repaired(repaired: Repaired) -> u64
     ensures { result ≡ packed_repair repaired }
 {

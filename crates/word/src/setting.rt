@@ -88,6 +88,7 @@ pub enum Check {
 
 impl Setting {
     // Whether there is such a setting, or which refusal it meets first: LEVEL, MODE or SLI.
+    #[tactic(auto, unfolding(crate::specs::Setting::check_of, crate::specs::First::first, crate::specs::First::choose, crate::specs::Setting::refused_or))]
     pub fn check(self) -> Check
         ensures { Checks self result }
     {

@@ -20,6 +20,7 @@ impl Why {
     pub const SLI: u8 = 4;
 
     // A why's number (docs/CARD.md, W20 to W23).
+    #[tactic(auto, unfolding(crate::specs::Why::why_number))]
     pub fn number(self) -> u8
         ensures { Counts self result }
     {

@@ -9,15 +9,6 @@ use Rattle.gate.proofs.judging.first_refused.Goals as goal
 pub loop-number-init : goal.loop-number-init
 loop-number-init c = (omega arith, outset _ _)
 
-pub next_start-number-requires : goal.next_start-number-requires
-next_start-number-requires c = (omega arith, omega arith)
-
-pub overflow_mul-number : goal.overflow_mul-number
-overflow_mul-number c = omega (arith, c.next_start-number.ensures)
-
-pub loop-number-smaller-then-map-place-eq0 : goal.loop-number-smaller-then-map-place-eq0
-loop-number-smaller-then-map-place-eq0 c = omega (arith, c.next_start-number.ensures)
-
 pub loop-number-preserved-then-map-place-eq0 : goal.loop-number-preserved-then-map-place-eq0
 loop-number-preserved-then-map-place-eq0 c =
     let to = c.next_start-number.ensures in (

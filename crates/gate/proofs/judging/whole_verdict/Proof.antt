@@ -35,7 +35,6 @@ whole_verdict_spec =
     (λ c. search rules)
     (λ c. by_pair c.before (rw c.in_default-first.is))
     (λ c.
-    let at = c.before.before in
     let a = c.args in
     omega (arith, c.requires.0, c.requires.1, refused_within (submission a.setting a.words.now a.permit.now) a.map.now (rw c.first_refused-first.ensures at c.in-At.is)))
     (λ c. by_pair c.before.before (rw c.in-At.is)))

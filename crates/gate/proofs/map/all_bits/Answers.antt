@@ -1,6 +1,5 @@
-use mathlib.Core.Path.{◌≡◌, refl}
+use mathlib.Core.Path.{refl}
 use native.Mathlib.Omega.{arith}
-use lib.ListN.{length}
 use Rattle.rules.specs.Map.{all_bits}
 use Rattle.rules.proofs.AllBits.{bits_more}
 use Rattle.gate.proofs.map.all_bits.Goals as goal
@@ -10,8 +9,3 @@ loop-k-init c = (omega arith, unfold all_bits in refl)
 
 pub loop-k-preserved : goal.loop-k-preserved
 loop-k-preserved c = (omega arith, bits_more _ _ _ c.loop-k.invariant.1)
-
-pub returns : goal.returns
-returns c =
-    let e : c.loop-k.k ≡ length c.args.part.now = omega arith in
-    rw e at c.loop-k.invariant.1

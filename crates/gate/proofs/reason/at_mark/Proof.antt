@@ -54,8 +54,7 @@ few c = let a = (start c.before).args in rw c.next_pairs-next.ensures (at_most_t
 marks :
     (c : tie.After-marked_among) {b : Bool}
     → c.marked_among.result ≡ b
-    → let read = c.before.before.before.before.before in
-    let a = (start read).args in
+    → let a = (start c.before.before.before.before.before).args in
     among a.map.now (a.place + 1) (parameter_count c.read-command.result) ≡ b
 marks c e = rw (sym c.parameter_count.ensures) (sym c.marked_among.ensures ∙ e)
 

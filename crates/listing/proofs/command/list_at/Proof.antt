@@ -23,9 +23,8 @@ list_at_spec =
     (λ c κs. search rules)
     (λ c. search rules)
     (λ c κs.
-    let read = c.before in
-    let a = read.args in
-    inside a.setting a.words.now a.place _ (sym read.read_at-found.ensures ∙ c.in-Word.is))
+    let a = c.args in
+    inside a.setting a.words.now a.place _ (sym c.read_at-found.ensures ∙ c.in-Word.is))
     (λ c. search rules)
     (λ c. search rules)
     (λ c. c.item_of.ensures ∙ found c.before.before c.in-Word.is)

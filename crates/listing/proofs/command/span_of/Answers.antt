@@ -8,18 +8,6 @@ use Rattle.listing.proofs.command.span_of.Goals as goal
 
 -- `span_of` meets its contract: by the forms that have a count, and what the other arm leaves. Assumes nothing.
 
-pub returns-in-Increasing : goal.returns-in-Increasing
-unfolding span parameter_count own_words next_word form number forms increasing non_increasing long
-returns-in-Increasing c = rw c.in-Increasing.is
-
-pub returns-in-NonIncreasing : goal.returns-in-NonIncreasing
-unfolding span parameter_count own_words next_word form number forms increasing non_increasing long
-returns-in-NonIncreasing c = rw c.in-NonIncreasing.is
-
-pub returns-in-Long : goal.returns-in-Long
-unfolding span parameter_count own_words next_word form number forms increasing non_increasing long
-returns-in-Long c = rw c.in-Long.is
-
 pub returns-in_default : goal.returns-in_default
 unfolding span parameter_count own_words next_word form number forms increasing non_increasing long
 returns-in_default c = span_bare c.args.reading (opened c.in_default.in_default-own.keys4)

@@ -46,12 +46,9 @@ offset_spec =
     (λ c. rw (c.failed-then-offset-ne0-2.ensures, le-ltb _ _ c.if-level.false, ← field_0 _ 1, ne_eqb _ _ c.if-offset-ne0-2.true))
     (λ c κs. search rules)
     (λ c.
-    let one = c.before.before.before in
-    let half = upper_half _ (word one.before.before.before) in
+    let half = upper_half _ (word c.before.before.before.before.before.before) in
     rw (c.failed-then-offset-ne0-3.ensures, le-ltb _ _ c.if-level.false, ← field_0 _ 1, eq-eqb _ _ c.if-offset-ne0-2.false, half, ne_eqb _ _ c.if-offset-ne0-3.true))
     (λ c κs. search rules)
     (λ c.
-    let three = c.before.before.before.before in
-    let one = three.before in
-    let half = upper_half _ (word one.before.before.before) in
+    let half = upper_half _ (word c.before.before.before.before.before.before.before.before) in
     rw (c.done-2.ensures, le-ltb _ _ c.if-level.false, ← field_0 _ 1, eq-eqb _ _ c.if-offset-ne0-2.false, half, eq-eqb _ _ c.if-offset-ne0-3.false)))

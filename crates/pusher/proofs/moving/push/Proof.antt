@@ -25,14 +25,10 @@ push_spec =
     (λ c. c.word.ensures (to_pusher [] _) ∙ ap (act _ _ _) (sym (when_words _ _ _ (runs c.before.before.before) c.if-pusher.true)))
     (λ c κs. search rules)
     (λ c.
-    let read = c.before.before.before.before in
-    c.quiet-then-setup.ensures ∙ ap (act _ _ _) (sym (without_ib _ _ _ (runs read.before.before) c.if-pusher.false c.if-setup.true)))
+    c.quiet-then-setup.ensures ∙ ap (act _ _ _) (sym (without_ib _ _ _ (runs c.before.before.before.before.before.before) c.if-pusher.false c.if-setup.true)))
     (λ c κs. search rules)
     (λ c.
-    let read = c.before.before.before.before.before.before in
-    c.quiet-then-pusher-2.ensures ∙ ap (act _ _ _) (sym (without_entries _ _ _ (runs read.before.before) c.if-pusher.false c.if-pusher-2.true)))
+    c.quiet-then-pusher-2.ensures ∙ ap (act _ _ _) (sym (without_entries _ _ _ (runs c.before.before.before.before.before.before.before.before) c.if-pusher.false c.if-pusher-2.true)))
     (λ c κs. search rules)
     (λ c.
-    let ib = c.before.before.before in
-    let read = ib.before.before.before in
-    c.entry.ensures (to_pusher _ []) ∙ ap (act _ _ _) (sym (when_entries _ _ _ (runs read.before.before) c.if-pusher.false c.if-setup.false c.if-pusher-2.false))))
+    c.entry.ensures (to_pusher _ []) ∙ ap (act _ _ _) (sym (when_entries _ _ _ (runs c.before.before.before.before.before.before.before.before) c.if-pusher.false c.if-setup.false c.if-pusher-2.false))))

@@ -1,9 +1,7 @@
-use Prim.Native.Nat.{◌≤◌}
 use mathlib.Core.Path.{sym, ap, ◌∙◌}
 use mathlib.Core.Logic.{inl, inr}
 use native.Mathlib.Omega.{arith}
 use Rattle.pusher.specs.Moving.{act}
-use Rattle.pusher.specs.Promises.{InIb}
 use Rattle.pusher.proofs.Roles.{no_word, awaits_count, inside_run, between_runs}
 use Rattle.pusher.proofs.PastWord.{advanced_only}
 use Rattle.pusher.proofs.moving.word.Goals as goal
@@ -20,13 +18,7 @@ returns-then-words-place c l = c.failed-then-words-place.ensures ∙ ap (act _ _
 pub returns-then-pusher : goal.returns-then-pusher
 unfolding act
 returns-then-pusher c l =
-    -- the limit has stopped nothing: in IB mode, or within it
-    let low : (InIb c.args.setup → ⊥) → c.args.pusher.get ≤ c.args.setup.limit =
-    λ n. elim c.else-mode.branch [
-      | else-mode-via-then-mode+else-setup-get w ↦ w.if-setup-get.false
-      | else-mode-via-else-mode w ↦ absurd (n w.if-mode.false)
-    ] in
-    (rw c.advance-next.ensures at c.count.ensures) ∙ ap (act _ _ _) (sym (awaits_count _ _ _ low c.if-words-place.false c.if-pusher.true))
+    (rw c.advance-next.ensures at c.count.ensures) ∙ ap (act _ _ _) (sym (awaits_count _ _ _ (λ n. grind arith) c.if-words-place.false c.if-pusher.true))
 
 pub parameter-requires : goal.parameter-requires
 parameter-requires c = rw (c.advance-next.ensures, advanced_only) (omega arith)
@@ -34,21 +26,9 @@ parameter-requires c = rw (c.advance-next.ensures, advanced_only) (omega arith)
 pub returns-then-pusher-ne0 : goal.returns-then-pusher-ne0
 unfolding act
 returns-then-pusher-ne0 c l =
-    -- the limit has stopped nothing: in IB mode, or within it
-    let low : (InIb c.args.setup → ⊥) → c.args.pusher.get ≤ c.args.setup.limit =
-    λ n. elim c.else-mode.branch [
-      | else-mode-via-then-mode+else-setup-get w ↦ w.if-setup-get.false
-      | else-mode-via-else-mode w ↦ absurd (n w.if-mode.false)
-    ] in
-    (rw c.advance-next.ensures at c.parameter.ensures) ∙ ap (act _ _ _) (sym (inside_run _ _ _ low c.if-words-place.false c.if-pusher.false c.if-pusher-ne0.true))
+    (rw c.advance-next.ensures at c.parameter.ensures) ∙ ap (act _ _ _) (sym (inside_run _ _ _ (λ n. grind arith) c.if-words-place.false c.if-pusher.false c.if-pusher-ne0.true))
 
 pub returns : goal.returns
 unfolding act
 returns c l =
-    -- the limit has stopped nothing: in IB mode, or within it
-    let low : (InIb c.args.setup → ⊥) → c.args.pusher.get ≤ c.args.setup.limit =
-    λ n. elim c.else-mode.branch [
-      | else-mode-via-then-mode+else-setup-get w ↦ w.if-setup-get.false
-      | else-mode-via-else-mode w ↦ absurd (n w.if-mode.false)
-    ] in
-    (rw c.advance-next.ensures at c.command.ensures) ∙ ap (act _ _ _) (sym (between_runs _ _ _ low c.if-words-place.false c.if-pusher.false c.if-pusher-ne0.false))
+    (rw c.advance-next.ensures at c.command.ensures) ∙ ap (act _ _ _) (sym (between_runs _ _ _ (λ n. grind arith) c.if-words-place.false c.if-pusher.false c.if-pusher-ne0.false))

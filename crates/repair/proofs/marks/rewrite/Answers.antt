@@ -22,17 +22,7 @@ loop-place-preserved c = (
   passed_more c.args.map.now c.args.list.now c.args.work.now c.loop-place.place c.loop-place.map c.loop-place.list c.loop-place.work c.loop-place.count c.loop-place.invariant.1 (omega arith) c.requires.1 c.requires.2 _ _ _ _ c.put-count.ensures,
 )
 
-pub shape_of-map : goal.shape_of-map
-shape_of-map c = c.loop-place.invariant.1.map_long
-
-pub shape_of-list : goal.shape_of-list
-shape_of-list c = c.loop-place.invariant.1.list_long
-
-pub shape_of-work : goal.shape_of-work
-shape_of-work c = c.loop-place.invariant.1.work_long
-
 pub returns : goal.returns
 returns c =
-    let at = c.before in
     let end : c.loop-place.place ≡ length c.args.map.now = omega arith in
     passed_all c.args.map.now c.args.list.now c.args.work.now c.requires.2 c.loop-place.map c.loop-place.list c.loop-place.work c.loop-place.count (rw end at c.loop-place.invariant.1)

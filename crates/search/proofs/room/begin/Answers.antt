@@ -7,9 +7,6 @@ use Rattle.search.proofs.room.begin.Goals as goal
 pub returns-then-end-eq0 : goal.returns-then-end-eq0
 returns-then-end-eq0 c = rw (choose_true (eq-eqb _ _ c.if-end-eq0.true)) (holds_none _ c.requires.2)
 
-pub bounds-room-0 : goal.bounds-room-0
-bounds-room-0 c = omega (arith, c.requires.1)
-
 pub returns : goal.returns
 returns c =
     let many = c.requires in

@@ -1,4 +1,3 @@
-use mathlib.Core.Path.{◌∙◌}
 use Rattle.rules.specs.Search.{find}
 use Rattle.search.proofs.Rooms.{each_none, each_one, each_two}
 use Rattle.search.proofs.room.find_each.Goals as goal
@@ -6,18 +5,10 @@ use Rattle.search.proofs.room.find_each.Goals as goal
 pub returns-then-next-eq0 : goal.returns-then-next-eq0
 returns-then-next-eq0 c fs qs is l h = let a = c.args in rw (each_none a.end a.from fs qs is c.if-next-eq0.true) h
 
-pub find-one-requires : goal.find-one-requires
-find-one-requires c = let p = c.requires in (p.0, p.1, p.2, p.3, p.5)
-
 pub returns-then-next-eq1 : goal.returns-then-next-eq1
 returns-then-next-eq1 c fs qs is l h =
     let a = c.args in
     rw (each_one a.end a.from fs qs is c.if-next-eq1.true) (c.find-one.ensures fs h)
-
-pub find-requires : goal.find-requires
-find-requires c =
-    let p = c.requires in
-    (p.0, p.1, c.find-one.auto.room ∙ p.2, p.4, (_, c.find-one.ensures p.5.0 p.5.1))
 
 pub returns : goal.returns
 returns c fs qs is l h =

@@ -53,7 +53,7 @@ module _ (c : tie.Else-count-turn) where
   pair_within : pair < length start.args.room.now
   pair_within = let at = pair_is start.requires.2.0 start.requires.2.1 in omega (arith, at.0, at.1)
 
-read : (c : tie.After-read-command) → let at = c.before.before.before in c.read-command.result ≡ command_at (given (start c.before.before.before)) (place_of (pair c.before.before.before))
+read : (c : tie.After-read-command) → c.read-command.result ≡ command_at (given (start c.before.before.before)) (place_of (pair c.before.before.before))
 read c = rw c.word_at.ensures at c.read-command.ensures
 
 module _ (c : tie.After-flaw-found) where

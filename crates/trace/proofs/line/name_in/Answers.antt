@@ -4,9 +4,6 @@ use Rattle.trace.proofs.Names.{name_ends, before_name, own_byte, other_byte, non
 use Rattle.trace.proofs.line.name_in.Goals as goal
 use Rattle.trace.proofs.line.name_in.Goals.{then-byte-eq32+else-left-eq0, else-byte-eq32+then-left-eq0-2, else-byte-eq32+else-left-eq0-2}
 
-pub loop-i-init : goal.loop-i-init
-loop-i-init c = (refl, omega arith, refl)
-
 pub returns-then-left-eq0 : goal.returns-then-left-eq0
 returns-then-left-eq0 c =
     sym (name_ends c.args.names.now c.loop-i.i (omega arith) c.loop-i.line c.loop-i.left c.if-byte-eq32.true c.if-left-eq0.true) ∙ c.loop-i.invariant.2

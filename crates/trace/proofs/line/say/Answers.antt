@@ -1,7 +1,7 @@
-use mathlib.Core.Path.{refl, ◌∙◌}
+use mathlib.Core.Path.{refl}
 use native.Mathlib.Omega.{arith}
 use Rattle.trace.specs.Line.{added}
-use Rattle.trace.proofs.Adding.{add_next, add_all}
+use Rattle.trace.proofs.Adding.{add_next}
 use Rattle.trace.proofs.line.say.Goals as goal
 
 pub loop-i-init : goal.loop-i-init
@@ -10,7 +10,3 @@ loop-i-init c = (refl, omega arith, unfold added in refl)
 pub loop-i-preserved : goal.loop-i-preserved
 loop-i-preserved c =
     (refl, omega arith, add_next c.args.line c.loop-i.line c.push-line.result c.args.text.now c.loop-i.i (omega arith) c.loop-i.invariant.2 c.push-line.ensures)
-
-pub returns : goal.returns
-returns c =
-    c.loop-i.invariant.2 ∙ add_all c.args.line c.args.text.now c.loop-i.i (omega arith)

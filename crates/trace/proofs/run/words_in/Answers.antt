@@ -1,20 +1,12 @@
 use Prim.Native.Nat.{ℕ, ◌/◌, ◌≤◌}
-use mathlib.Core.Path.{◌≡◌, refl, ap, ◌∙◌}
+use mathlib.Core.Path.{◌≡◌, ap, ◌∙◌}
 use native.Mathlib.Omega.{arith}
 use lib.ListN.{length, take}
 use lib.Seq.{sets}
 use Rattle.word.specs.Lent.{words_of}
 use Rattle.word.proofs.Bytes.{words_length}
-use Rattle.trace.proofs.Loading.{stored, same_room, all_read, how_many}
+use Rattle.trace.proofs.Loading.{stored, all_read, how_many}
 use Rattle.trace.proofs.run.words_in.Goals as goal
-
-pub loop-place-init : goal.loop-place-init
-loop-place-init c = (c.least-count.ensures, omega arith, refl)
-
-pub bounds-words-place : goal.bounds-words-place
-bounds-words-place c =
-    let loop = c.loop-place in
-    omega (arith, loop.invariant.0, same_room (take loop.place (words_of c.args.bytes.now)) c.args.words.now loop.words loop.invariant.2)
 
 pub loop-place-preserved : goal.loop-place-preserved
 loop-place-preserved c =
@@ -22,11 +14,6 @@ loop-place-preserved c =
     -- there are four bytes for each word that is counted
     let few : c.least-count.result ≤ length c.args.bytes.now / 4 = omega (arith, loop.invariant.0) in
     (loop.invariant.0, omega arith, stored (words_of c.args.bytes.now) c.args.words.now loop.words loop.place c.word_at.result (omega (arith, few, words_length c.args.bytes.now)) loop.invariant.2 c.word_at.ensures)
-
-pub shape_of-words : goal.shape_of-words
-shape_of-words c =
-    let loop = c.loop-place in
-    same_room (take loop.place (words_of c.args.bytes.now)) c.args.words.now loop.words loop.invariant.2
 
 pub returns : goal.returns
 returns c =

@@ -22,10 +22,9 @@ returns-then-word-eq131072 c = sym (return_is _ _ (omega arith))
 
 pub returns : goal.returns
 returns c =
-    let start = c.before.before.before in
-    let w = start.args.word in
-    let h = start.ranges.word.fits in
-    let p = start.requires in
+    let w = c.args.word in
+    let h = c.ranges.word.fits in
+    let p = c.requires in
     rest_is w _ p.0 p.1 p.2
     (λ e. c.if-upper-eq1.false (sym (upper_half w h) ∙ e))
     (λ e. c.if-upper-eq3.false (sym (upper_half w h) ∙ e))

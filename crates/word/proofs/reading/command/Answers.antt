@@ -4,9 +4,6 @@ use lib.Bits.{and_high}
 use Rattle.word.proofs.Decode.{field_0, jump_is, call_is, three_is}
 use Rattle.word.proofs.reading.command.Goals as goal
 
-pub by_upper_bits-requires : goal.by_upper_bits-requires
-by_upper_bits-requires c = let w = c.args.word in sym (field_0 w 1) ∙ c.if-low-eq0.true
-
 pub returns-then-low-eq1 : goal.returns-then-low-eq1
 returns-then-low-eq1 c = let w = c.args.word in simp (and_high w 30 2) (sym (jump_is w _ (sym (field_0 w 1) ∙ c.if-low-eq1.true)))
 

@@ -27,6 +27,5 @@ read_checked_spec =
     (λ c κs. sym c.available.ensures ∙ c.if-available.false)
     (λ c. c.command-command.ensures ∙ sym (choose_true (tested c.before ∙ c.if-available.true) _ _))
     (λ c.
-    let start = c.before.before.before in
-    let same = ap (λ (f : Form). why_of (why_not start.args.setting f)) (same_form start) in
+    let same = ap (λ (f : Form). why_of (why_not c.args.setting f)) (same_form c.before.before.before) in
     ap Reserved (c.why_not.ensures ∙ same) ∙ sym (choose_false (tested c.before.before ∙ c.if-available.false) _ _)))

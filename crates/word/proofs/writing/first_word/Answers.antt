@@ -22,15 +22,12 @@ or_low : (t b : ℕ) → t ≡ t / 4 * 4 → b < 4 → bit_or t b ≡ t + b
 or_low t b e h = ap (λ (x : ℕ). bit_or x b) e ∙ or_shifted (t / 4) 2 b h ∙ ap (λ (x : ℕ). x + b) (sym e)
 
 pub packed-requires : goal.packed-requires
-unfolding word_with form number forms values increasing non_increasing sli_conditional returning long old_jump jump call everything_else
 packed-requires c = let p = fields c.in-Increasing.is c.requires in (p.0, p.1, p.2)
 
 pub packed-requires-in-NonIncreasing : goal.packed-requires-in-NonIncreasing
-unfolding word_with form number forms values increasing non_increasing sli_conditional returning long old_jump jump call everything_else
 packed-requires-in-NonIncreasing c = let p = fields c.in-NonIncreasing.is c.requires in (p.0, p.1, p.2)
 
 pub packed-requires-in-Long : goal.packed-requires-in-Long
-unfolding word_with form number forms values increasing non_increasing sli_conditional returning long old_jump jump call everything_else
 packed-requires-in-Long c = let p = fields c.in-Long.is c.requires in (omega arith, p.0, p.1)
 
 pub returns-in-Increasing : goal.returns-in-Increasing
