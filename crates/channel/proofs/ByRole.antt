@@ -60,7 +60,7 @@ module _ (c : Channel) (l : Loan) where
       let size = h.sizes in
       step_first
       ∙ fails_none (step_cases c l) (
-        ap not (unformed c h.well_formed_lem),
+        ap not (unformed c h.well_formed),
         (
           rw (le-ltb 1048576 (length l.pusher.words) size.words, le-ltb 1048576 (length l.puller.semaphores) size.semaphores),
           (not-true t ((not_plain t (table_plain l.puller.table)).1 size.table), tt),

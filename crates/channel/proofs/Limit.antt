@@ -66,7 +66,7 @@ reads_two mode get e n = (
   reader mode get,
   two_words,
   record {
-    takable = record { well_formed_lem = formed (reader mode get) e; sizes = record { words = omega arith; semaphores = omega arith; table = ⊎_elim (λ k. k refl) (λ k. omega arith) } };
+    takable = record { well_formed = formed (reader mode get) e; sizes = record { words = omega arith; semaphores = omega arith; table = ⊎_elim (λ k. k refl) (λ k. omega arith) } };
     running = (refl, refl);
     no_acquire = refl;
     mode_is = refl;

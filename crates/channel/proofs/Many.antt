@@ -78,6 +78,6 @@ module _ (l : Loan) (c : Channel) where
       none_refused size n =
           let long = after_length n in
           taking.none_refused (after l n c).channel (with_semaphores l (after l n c).semaphores) (record {
-            well_formed_lem = after_formed n;
+            well_formed = after_formed n;
             sizes = record { words = size.words; semaphores = omega (arith, size.semaphores); table = size.table };
           })

@@ -381,7 +381,7 @@ module _ (R : Channel → Loan → Stepped → List ℕ → Type 0) (s : Sentenc
       let n = none_of (step_cases c l) (step_plain c l) (step_agree c l) e in
       let over_words : (1048576 < length l.pusher.words → ⊥) = λ b. n.1.0 (inl b) in
       let over_memory : (1048576 < length l.puller.semaphores → ⊥) = λ b. n.1.0 (inr b) in
-      let k : Takable c l = record { well_formed_lem = surely c n.0; sizes = record { words = omega arith; semaphores = omega arith; table = n.1.1.0 } } in
+      let k : Takable c l = record { well_formed = surely c n.0; sizes = record { words = omega arith; semaphores = omega arith; table = n.1.1.0 } } in
       ⊎_elim (takes_same k _ refl) (stops_same k) (whether_running c)
 
 pub no_other : NoOther

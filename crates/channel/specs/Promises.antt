@@ -221,7 +221,7 @@ pub record SizesFit (l : Loan) : Type 0 where
 
 -- the step is not refused
 pub record Takable (c : Channel) (l : Loan) : Type 0 where
-  pub well_formed_lem : WellFormed c
+  pub well_formed : WellFormed c
   pub sizes : SizesFit l
 
 -- neither half has been stopped by an error

@@ -146,7 +146,7 @@ pub record Third : Type 0 where
   pub read_as : channel.ReadAs
   pub complete : rules.Complete
   pub exact_is_one : rules.ExactIsOne
-  pub exact_map_lem : rules.ExactMap
+  pub exact_map : rules.ExactMap
   -- what is accepted has no bad place, and no run past the last method
   pub none_bad : rules.NoneBad
   pub none_wraps : reasons.NoneWraps

@@ -108,7 +108,7 @@ module _ (level : ℕ) (sli : Bool) (l : RepairLoan) where
 
   refusing : (n : Refusal) → Refused n ≡ asked → Repairs level sli l (Refused n) l.map l.list l.work
   unfolding map_after list_after work_after
-  refusing n e = record { answer = e; map_after_lem = refl; list_after_lem = refl; work_after_lem = refl }
+  refusing n e = record { answer = e; map_after = refl; list_after = refl; work_after = refl }
 
   pub setting_refused : (n : Refusal) → check_of (setting_of level sli) ≡ check.Refused n → Repairs level sli l (Refused n) l.map l.list l.work
   unfolding repair_of
@@ -141,7 +141,7 @@ module _ (level : ℕ) (sli : Bool) (l : RepairLoan) where
         mended h m =
             record {
               answer = ap Changes m.counted ∙ sym (miss ROOM [] Refused done h ∙ no_more Refused done) ∙ past;
-              map_after_lem = m.marks;
-              list_after_lem = m.listed;
-              work_after_lem = m.cleared;
+              map_after = m.marks;
+              list_after = m.listed;
+              work_after = m.cleared;
             }

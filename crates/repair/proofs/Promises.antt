@@ -85,7 +85,7 @@ module _ (level : ℕ) (sli : Bool) (l : RepairLoan) where
       → (map ≡ l.map) × (list ≡ l.list) × (work ≡ l.work)
   unfolding repaired_refusal map_after list_after work_after
   refused_leaves (repaired.Changes c) map list work h n e = let z : ◌≡◌ {A = ℕ} 0 1 = cc in absurd (omega arith)
-  refused_leaves (repaired.Refused m) map list work h n e = (h.map_after_lem, h.list_after_lem, h.work_after_lem)
+  refused_leaves (repaired.Refused m) map list work h n e = (h.map_after, h.list_after, h.work_after)
 
   pub record Did (a : Repaired) (map list work : List ℕ) : Type 0 where
     pub values : repaired_values a ≡ length (changes l.map (exact_map given)) ∷ []
@@ -103,9 +103,9 @@ module _ (level : ℕ) (sli : Bool) (l : RepairLoan) where
       let is : a ≡ done = h.answer ∙ rw None-first in
       record {
         values = rw is;
-        marks = h.map_after_lem ∙ rw is;
-        listed = h.list_after_lem ∙ rw is;
-        cleared = h.work_after_lem ∙ rw is;
+        marks = h.map_after ∙ rw is;
+        listed = h.list_after ∙ rw is;
+        cleared = h.work_after ∙ rw is;
         fit = fits 8192 level sli l.bytes l.map l.permit two.0;
         spacious = rooms_fit (length l.bytes) (length l.list) (length l.work) (none_fails rooms two.1).0;
       }
@@ -129,9 +129,9 @@ one level sli l a b map map' list list' work work' h k =
     let x = submitted level sli l in
     let same = one_outcome h.answer k.answer in (
       same,
-      h.map_after_lem ∙ ap (λ (r : Repaired). map_after r x l.map) same ∙ sym k.map_after_lem,
-      h.list_after_lem ∙ ap (λ (r : Repaired). list_after r x l.map l.list) same ∙ sym k.list_after_lem,
-      h.work_after_lem ∙ ap (λ (r : Repaired). work_after r x l.work) same ∙ sym k.work_after_lem,
+      h.map_after ∙ ap (λ (r : Repaired). map_after r x l.map) same ∙ sym k.map_after,
+      h.list_after ∙ ap (λ (r : Repaired). list_after r x l.map l.list) same ∙ sym k.list_after,
+      h.work_after ∙ ap (λ (r : Repaired). work_after r x l.work) same ∙ sym k.work_after,
     )
 
 pub mended : Mended

@@ -23,6 +23,6 @@ submitted level sli l = submission (setting_of level sli) l.bytes l.permit
 -- `repair`, of level, SLI setting and what is lent at entry: the answer, and map, list and work room at exit
 pub record Repairs (level : ℕ) (sli : Bool) (l : RepairLoan) (a : Repaired) (map list work : List ℕ) : Type 0 where
   pub answer : a ≡ repair_of level sli l.bytes l.map l.permit (length l.list) (length l.work)
-  pub map_after_lem : map ≡ map_after a (submitted level sli l) l.map
-  pub list_after_lem : list ≡ list_after a (submitted level sli l) l.map l.list
-  pub work_after_lem : work ≡ work_after a (submitted level sli l) l.work
+  pub map_after : map ≡ map_after a (submitted level sli l) l.map
+  pub list_after : list ≡ list_after a (submitted level sli l) l.map l.list
+  pub work_after : work ≡ work_after a (submitted level sli l) l.work

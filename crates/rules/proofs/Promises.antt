@@ -44,7 +44,7 @@ one =
       marked_among = λ map p c a b. one_outcome;
       arrival = λ n q lacks a b. one_outcome;
       nexts = λ d p s a b. one_outcome;
-      first_refused_lem = λ setting bytes map list a b. one_outcome;
+      first_refused = λ setting bytes map list a b. one_outcome;
       no_such_lengths = λ bytes map list a b. one_outcome;
       judge = λ level sli bytes map list a b. one_outcome;
     }

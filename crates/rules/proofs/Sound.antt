@@ -106,7 +106,7 @@ module _ (level : ℕ) (sli : Bool) (bytes map list : List ℕ) (words : Bytes b
       → StepsTo c l r exit
       → step_refusal r.answer ≡ none
   step_none c a l exit r lent table semaphores m =
-      let can : channel.Takable c l = record { well_formed_lem = formed c a; sizes = record { words = rw lent h.words; semaphores = semaphores; table = table } } in
+      let can : channel.Takable c l = record { well_formed = formed c a; sizes = record { words = rw lent h.words; semaphores = semaphores; table = table } } in
       ap (λ (y : Stepped). step_refusal y.answer) m.answer ∙ none_refused c l can
 
 -- lists of values that are one have the same second and third

@@ -92,7 +92,7 @@ pub record One : Type 0 where
   pub marked_among : (map : List ℕ) (p c : ℕ) (a b : Bool) → MarkedAmong map p c a → MarkedAmong map p c b → a ≡ b
   pub arrival : (n : ℕ) (q : Pair) (lacks : Bool) (a b : Finding) → Arrives n q lacks a → Arrives n q lacks b → a ≡ b
   pub nexts : (d : Reading) (p : ℕ) (s : Bool) (a b : Nexts) → NextPairs d p s a → NextPairs d p s b → a ≡ b
-  pub first_refused_lem :
+  pub first_refused :
       (setting : Setting) (bytes map list : List ℕ) (a b : FirstRefused)
       → FirstRefuses setting bytes map list a
       → FirstRefuses setting bytes map list b
