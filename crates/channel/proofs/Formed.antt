@@ -1,21 +1,19 @@
 -- The test of a channel's record says what a well-formed channel is in plain terms. Assumes nothing.
 use Prim.Native.Nat.{ℕ, ◌%◌, ◌^◌, ◌≤◌, ◌<◌}
-use mathlib.Core.Path.{◌≡◌, refl, ap}
+use mathlib.Core.Path.{◌≡◌, refl}
 use mathlib.Core.Bool.{Bool, true, false, not, ◌&&◌, ◌||◌}
 use mathlib.Core.List.{List, [], ◌∷◌}
 use mathlib.Core.Logic.{◌⊎◌, inl, inr, ⊎_elim, ◌↔◌}
 use native.Mathlib.Omega.{arith}
 use lib.Dec.{eqb, ltb}
-use borrow.Author.Tests.{eq-eqb, eqb-true, eqb-false, ne_eqb, leb-false, lt-leb, not-true}
+use borrow.Author.Tests.{eq-eqb, eqb-true, eqb-false, ne_eqb}
 use Rattle.word.specs.Setting.{level_refused, mode_refused, sli_refused}
 use Rattle.word.proofs.First.{choose_true, choose_false}
 use Rattle.word.proofs.Tests.{both, not_plain, or_plain, and_plain, less_plain, equal_plain}
-use Rattle.puller.specs.Record.{engine_of}
-use Rattle.puller.specs.declared.record.Puller.{Puller}
-use Rattle.word.proofs.Lowest.{found_none, none_found}
+use Rattle.channel.proofs.Widths.{engines_plain}
 use Rattle.pusher.specs.Widths.{SetUp, Narrow}
 use Rattle.pusher.specs.declared.record.Setup.{Setup}
-use Rattle.channel.specs.State.{order_refused, setup_fits, Width, within, address_bits, widths, addresses, aligned, engine_too_wide, engines_fit, well_formed}
+use Rattle.channel.specs.State.{order_refused, setup_fits, Width, within, address_bits, widths, addresses, aligned, engines_fit, well_formed}
 use Rattle.channel.specs.Promises.{WellFormed}
 use Rattle.channel.specs.declared.record.Channel.{Channel}
 
@@ -116,14 +114,6 @@ module _ (s : Setup) where
       go : (b : Bool) → eqb mode 1 ≡ b → a < 2 ^ address_bits s
       go true e = let m = eqb-true mode 1 e in rw (ib_bits m) (h.ib m)
       go false e = let n = eqb-false mode 1 e in let m : mode ≡ 0 = omega arith in rw (nv04_bits m) (h.nv04_style m)
-
--- the eight engines
-engines_plain : (p : Puller) → engines_fit p ≡ true ↔ ((subchannel : ℕ) → subchannel < 8 → engine_of p subchannel < 2 ^ 5)
-unfolding engines_fit
-engines_plain p = (
-  λ e i l. leb-false _ _ (found_none (engine_too_wide p) 8 (not-true _ e) i l),
-  λ h. ap not (none_found (engine_too_wide p) 8 (λ i l. lt-leb _ _ (h i l))),
-)
 
 module _ (c : Channel) where
   pub formed : well_formed c ≡ true → WellFormed c

@@ -26,7 +26,7 @@ use Rattle.channel.specs.Stepping.{is_stopped}
 use Rattle.channel.specs.Idle.{idles}
 use Rattle.channel.specs.Promises.{Resting, Idle}
 use Rattle.channel.specs.declared.record.Channel.{Channel}
-use Rattle.channel.specs.declared.stepping.Answer.TheVariants as answer
+use Rattle.std.specs.declared.result.Result.TheVariants.{Ok}
 use Rattle.channel.specs.declared.stepping.Stepped.{Stepped}
 use Rattle.channel.proofs.Answers.{says_kind, kind_says}
 use Rattle.channel.proofs.Steps.{when_free, free}
@@ -114,7 +114,7 @@ says_so c l exit r m t = (
   λ i.
       let w = rests c i in
       let done = goes_as c l (ap (λ (y : Stepped). step_refusal y.answer) (sym m.answer) ∙ t) w.0 (idle_role c l w) in
-      kind_says (ap (λ (y : Stepped). y.answer) (leaves c l exit r m done).0 ∙ ap answer.Event (says_idle c.setup c.pusher c.puller l)),
+      kind_says (ap (λ (y : Stepped). y.answer) (leaves c l exit r m done).0 ∙ ap Ok (says_idle c.setup c.pusher c.puller l)),
   λ e.
       let s = said_by c l exit r m (Plain kind.Idle) pusher.idles (says_kind r.answer kind.Idle e) only_idle in
       idle_at c (resting_role c l s.0 s.1),

@@ -12,13 +12,13 @@ use Rattle.channel.specs.Record.{with_halves}
 use Rattle.channel.specs.Stepping.{refusing}
 use Rattle.channel.specs.Promises.{Halves, Leaves}
 use Rattle.channel.specs.declared.record.Channel.{Channel}
-use Rattle.channel.specs.declared.stepping.Answer.TheVariants as answer
+use Rattle.std.specs.declared.result.Result.TheVariants.{Ok}
 use Rattle.channel.specs.declared.stepping.Stepped.{Stepped}
 use Rattle.channel.proofs.Answers.{says_event, says_refusal}
 
 -- it says e, and leaves the pusher p and the puller q
 abbrev pub leaving : Channel → Event → Pusher → Puller → Stepped
-leaving c e p q = record { answer = answer.Event e; channel = with_halves c p q }
+leaving c e p q = record { answer = Ok e; channel = with_halves c p q }
 
 module _ {c : Channel} {p : Pusher} {q : Puller} where
   pub has_halves : {d : Channel} → d ≡ with_halves c p q → Halves c p q d

@@ -7,6 +7,7 @@ use lib.ListN.{length}
 use Rattle.word.specs.First.{first}
 use Rattle.word.specs.Setting.{refused_or}
 use Rattle.word.specs.declared.setting.Level.{Level}
+use Rattle.word.specs.declared.setting.Refusal.{Refusal}
 use Rattle.event.specs.declared.Event.{Event}
 use Rattle.puller.specs.Loan.{PullerLoan}
 use Rattle.puller.specs.declared.record.Puller.{Puller}
@@ -21,16 +22,16 @@ use Rattle.channel.specs.Stepping.{Role, halted, retries, moves, role, finished,
 use Rattle.channel.specs.Many.{step_at, after}
 use Rattle.channel.specs.Promises.{WellFormed, SizesFit, OfWords, Later, same, step}
 use Rattle.channel.specs.declared.record.Channel.{Channel}
-use Rattle.channel.specs.declared.stepping.Answer.{Answer}
-use Rattle.channel.specs.declared.stepping.Answer.TheVariants as answer
+use Rattle.std.specs.declared.result.Result.{Result}
+use Rattle.std.specs.declared.result.Result.TheVariants.{Ok, Err}
 use Rattle.channel.proofs.ByRole as taking
 use Rattle.channel.proofs.Promises.{kept}
 
 -- an answer that is not a refusal is an event
-pub is_event : (a : Answer) → step_refusal a ≡ none → (e : Event) × (a ≡ answer.Event e)
+pub is_event : (a : Result Event Refusal) → step_refusal a ≡ none → (e : Event) × (a ≡ Ok e)
 unfolding step_refusal
-is_event (answer.Event e) h = (e, refl)
-is_event (answer.Refused r) h = let z : ◌≡◌ {A = ℕ} 0 1 = cc in absurd (omega arith)
+is_event (Ok e) h = (e, refl)
+is_event (Err r) h = let z : ◌≡◌ {A = ℕ} 0 1 = cc in absurd (omega arith)
 
 -- A step keeps the length of the semaphore memory.
 finished_length : (level : Level) (p : Pusher) (q : Puller) (d : Did) (l : PullerLoan) → length (finished level p q d l).memory ≡ length l.semaphores

@@ -5,6 +5,8 @@ use mathlib.Core.Bool.{Bool, true, ◌&&◌, false≢true}
 use mathlib.Core.List.{List, [], ◌∷◌, ◌++◌}
 use mathlib.Core.Logic.{◌↔◌}
 use mathlib.Core.Option.{Option, none, some}
+use Rattle.std.specs.declared.option.Option as option
+use Rattle.std.specs.declared.option.Option.TheVariants.{Some, None}
 use native.Mathlib.Omega.{arith}
 use lib.Dec.{eqb, ltb}
 use borrow.Author.Tests.{eq-eqb, ne_eqb}
@@ -17,8 +19,6 @@ use Rattle.word.specs.Lowest.{lowest, found?}
 use Rattle.puller.specs.Object.{entries, repeats, repeat_at, repeat_of}
 use Rattle.puller.specs.Record as puller_record
 use Rattle.puller.specs.Answers.{repeat_number, repeat_values}
-use Rattle.puller.specs.declared.object.Repeat.{Repeat}
-use Rattle.puller.specs.declared.object.Repeat.TheVariants as repeat
 use Rattle.puller.proofs.Answers.{entry_values, none_values}
 use Rattle.puller.proofs.Causes as puller
 use Rattle.puller.proofs.Promises.{first_repeat}
@@ -29,39 +29,40 @@ use Rattle.channel.specs.Answers.{opening_refusal, opening_values}
 use Rattle.channel.specs.Opening.{open_cases, duplicate_or, opening_of, held_order, resting_at, fresh_channel, blank_channel, opened}
 use Rattle.channel.specs.Promises.{Twice, open_plain, AtRest, Fresh, Blank}
 use Rattle.channel.specs.declared.record.Channel.{Channel}
-use Rattle.channel.specs.declared.opening.Opening.{Opening}
-use Rattle.channel.specs.declared.opening.Opening.TheVariants.{Open, Refused, Duplicate}
+use Rattle.std.specs.declared.result.Result.{Result}
+use Rattle.channel.specs.declared.opening.Unopened.{Unopened}
+use Rattle.std.specs.declared.result.Result.TheVariants.{Ok, Err}
+use Rattle.channel.specs.declared.opening.Unopened.TheVariants.{Refused, Duplicate}
 use Rattle.channel.proofs.Refusals.{table_plain}
+use Rattle.channel.proofs.Openings.{refuse}
 
 -- the answer and the channel that go together
-pub opened_answer : (x : Opening) (c : Channel) → (opened x c).answer ≡ x
+pub opened_answer : (x : Result Unit Unopened) (c : Channel) → (opened x c).answer ≡ x
 unfolding opened
-opened_answer Open c = refl
-opened_answer (Refused n) c = refl
-opened_answer (Duplicate i) c = refl
+opened_answer (Ok u) c = refl
+opened_answer (Err y) c = refl
 
-pub opened_blank : (x : Opening) (c : Channel) (n : ℕ) → opening_refusal x ≡ some n → (opened x c).channel ≡ blank_channel
+pub opened_blank : (x : Result Unit Unopened) (c : Channel) (n : ℕ) → opening_refusal x ≡ some n → (opened x c).channel ≡ blank_channel
 unfolding opened opening_refusal
-opened_blank Open c n e = let z : ◌≡◌ {A = ℕ} 0 1 = cc in absurd (omega arith)
-opened_blank (Refused k) c n e = refl
-opened_blank (Duplicate i) c n e = refl
+opened_blank (Ok u) c n e = let z : ◌≡◌ {A = ℕ} 0 1 = cc in absurd (omega arith)
+opened_blank (Err y) c n e = refl
 
-pub opened_open : (x : Opening) (c : Channel) → opening_refusal x ≡ none → (opening_values x ≡ []) × ((opened x c).channel ≡ c)
+pub opened_open : (x : Result Unit Unopened) (c : Channel) → opening_refusal x ≡ none → (opening_values x ≡ []) × ((opened x c).channel ≡ c)
 unfolding opened opening_refusal opening_values
-opened_open Open c e = (refl, refl)
-opened_open (Refused k) c e = let z : ◌≡◌ {A = ℕ} 0 1 = cc in absurd (omega arith)
-opened_open (Duplicate i) c e = let z : ◌≡◌ {A = ℕ} 0 1 = cc in absurd (omega arith)
+opened_open (Ok u) c e = (refl, refl)
+opened_open (Err (Refused k)) c e = let z : ◌≡◌ {A = ℕ} 0 1 = cc in absurd (omega arith)
+opened_open (Err (Duplicate i)) c e = let z : ◌≡◌ {A = ℕ} 0 1 = cc in absurd (omega arith)
 
 -- DUPLICATE's test
 module _ (t : List ℕ) where
   abbrev twice : Bool
   twice = found? (lowest (repeats t) (entries t))
 
-  at_entry_lem : (i : ℕ) → lowest (repeats t) (entries t) ≡ some i → repeat_of t ≡ repeat.Entry i
+  at_entry_lem : (i : ℕ) → lowest (repeats t) (entries t) ≡ some i → repeat_of t ≡ Some i
   unfolding repeat_of repeat_at
   at_entry_lem i e = rw e
 
-  at_none : lowest (repeats t) (entries t) ≡ none → repeat_of t ≡ repeat.Nothing
+  at_none : lowest (repeats t) (entries t) ≡ none → repeat_of t ≡ None
   unfolding repeat_of repeat_at
   at_none e = rw e
 
@@ -85,12 +86,12 @@ unfolding opening_refusal duplicate_or repeat_at first found? choose
 repeat_refusal none = refl
 repeat_refusal (some i) = refl
 
-refusal_or : (o : Option ℕ) (a : Opening) → opening_refusal (refused_or Refused o a) ≡ or_else o (opening_refusal a)
+refusal_or : (o : Option ℕ) (a : Result Unit Unopened) → opening_refusal (refused_or refuse o a) ≡ or_else o (opening_refusal a)
 unfolding opening_refusal refused_or or_else
 refusal_or none a = refl
 refusal_or (some n) a = refl
 
-refusal_is : (n : ℕ) (a : Opening) → opening_refusal (refused_or Refused (some n) a) ≡ some n
+refusal_is : (n : ℕ) (a : Result Unit Unopened) → opening_refusal (refused_or refuse (some n) a) ≡ some n
 unfolding opening_refusal refused_or
 refusal_is n a = refl
 
@@ -146,16 +147,16 @@ module _ (level mode order : ℕ) (sli : Bool) (mask : ℕ) (t : List ℕ) where
       go :
           (o : Option ℕ)
           → first (open_cases level mode order sli mask t) ≡ o
-          → opening_refusal (refused_or Refused o (duplicate_or (repeat_of t))) ≡ some DUPLICATE
-          → refused_or Refused o (duplicate_or (repeat_of t)) ≡ duplicate_or (repeat_of t)
-      go none f h = accepted Refused _ refl
+          → opening_refusal (refused_or refuse o (duplicate_or (repeat_of t))) ≡ some DUPLICATE
+          → refused_or refuse o (duplicate_or (repeat_of t)) ≡ duplicate_or (repeat_of t)
+      go none f h = accepted refuse _ refl
       go (some n) f h = absurd (other (f ∙ sym (refusal_is n (duplicate_or (repeat_of t))) ∙ h))
 
 -- the entry that DUPLICATE answers
-pub duplicate_is : (x : Repeat) (i : ℕ) → opening_values (duplicate_or x) ≡ i ∷ [] ↔ ((repeat_number x ≡ 1) × (repeat_values x ≡ i ∷ []))
+pub duplicate_is : (x : option.Option ℕ) (i : ℕ) → opening_values (duplicate_or x) ≡ i ∷ [] ↔ ((repeat_number x ≡ 1) × (repeat_values x ≡ i ∷ []))
 unfolding duplicate_or opening_values repeat_number repeat_values
-duplicate_is repeat.Nothing i = (λ e. let z : ◌≡◌ {A = ℕ} 0 1 = cc in absurd (omega arith), λ e. absurd (omega (arith, e.0)))
-duplicate_is (repeat.Entry k) i = (λ e. (refl, e), λ e. e.1)
+duplicate_is None i = (λ e. let z : ◌≡◌ {A = ℕ} 0 1 = cc in absurd (omega arith), λ e. absurd (omega (arith, e.0)))
+duplicate_is (Some k) i = (λ e. (refl, e), λ e. e.1)
 
 -- a channel at rest
 at_rest : (s : Setup) (mask : ℕ) (active : Bool) → AtRest (resting_at s mask active)

@@ -12,7 +12,7 @@ use Rattle.word.specs.First.{first, FirstIs}
 use Rattle.word.specs.Setting.{STATE, DUPLICATE}
 use Rattle.word.specs.Answers.{check_refusal}
 use Rattle.word.specs.declared.setting.Level.{Level}
-use Rattle.word.specs.declared.setting.Check.TheVariants as check
+use Rattle.std.specs.declared.result.Result.TheVariants.{Ok}
 use Rattle.word.proofs.First.{one_outcome, choose_true, choose_false, first_is}
 use Rattle.word.proofs.Settings.{told_plain}
 use Rattle.event.specs.Event as event
@@ -56,7 +56,8 @@ use Rattle.channel.specs.Stepping as stepping
 use Rattle.channel.specs.Outcomes.{Puts, StepsTo}
 use Rattle.channel.specs.Promises.{WellFormed, open_plain, step_plain, put_plain, Fresh, Blank, Refused, Accepted, Lends, One, Takable, Running, MakesMove, Leaves, Sentences, Raises, PusherFails, KeepsAdvance, PullerFails, Steps, NoOther, Later, same, put, step, Kept}
 use Rattle.channel.specs.declared.record.Channel.{Channel}
-use Rattle.channel.specs.declared.opening.Opening.{Opening}
+use Rattle.std.specs.declared.result.Result as rust
+use Rattle.channel.specs.declared.opening.Unopened.{Unopened}
 use Rattle.channel.specs.declared.putting.Put.{Put}
 use Rattle.channel.specs.declared.stepping.Stepped.{Stepped}
 use Rattle.channel.proofs.Leaving.{leaving, has_halves, leaves_plainly, leaves_one, refusing_is}
@@ -73,7 +74,7 @@ put_tells r = check_refusal r.answer
 
 module _ (c : Channel) (p : ℕ) where
   abbrev fine : Put
-  fine = record { answer = check.Fine; channel = with_put c p }
+  fine = record { answer = Ok tt; channel = with_put c p }
 
   put_plain_lem : (n : ℕ) → put_tells (put_of c p) ≡ some n ↔ FirstIs (put_plain c p) n
   unfolding put_of check_refusal
@@ -97,7 +98,7 @@ module _ (c : Channel) (l : Loan) where
   step_refused n e = refused_is (stepping.unchanged c l) step_tells (λ x. refl) (first (step_cases c l)) (unrefused c l) n refl e
 
 module _ (level mode order : ℕ) (sli : Bool) (mask limit : ℕ) (t : List ℕ) where
-  abbrev asked : Opening
+  abbrev asked : rust.Result Unit Unopened
   asked = opening_of level mode order sli mask t
 
   abbrev fresh : Channel
@@ -300,10 +301,11 @@ module _ (c : Channel) (l : Loan) (exit : List ℕ) (r : Stepped) (h : StepsTo c
     take_error : (b : Bool) → c.puller.acquire.active ≡ b → Stopped
     take_error true a =
         let left = retried_is a in
-        let f = (puller_failing.failing).retry level c.puller l.puller.semaphores retried refl run.1 (its_error left.0.channel.puller) in (
-          raised left f.event refl,
-          record { move = λ y made. absurd (false≢true (sym made.no_acquire ∙ a)); retry = λ b. left.0.channel.pusher },
-          record { take = λ y m made t. absurd (false≢true (sym made.no_acquire ∙ a)); retry = λ b. rw left.0.channel.puller f.puller },
+        let f = (puller_failing.failing).retry level c.puller l.puller.semaphores retried refl run.1 (its_error left.0.channel.puller) in
+        let raises = retry_raises a f.1 in (
+          raises.0,
+          record { move = λ y made. absurd (false≢true (sym made.no_acquire ∙ a)); retry = λ b. raises.1 },
+          record { take = λ y m made t. absurd (false≢true (sym made.no_acquire ∙ a)); retry = λ b. (f.0, raises.2) },
         )
     take_error false a = by_take (record { running = run; no_acquire = a; move = refl }) pushed.did refl
 

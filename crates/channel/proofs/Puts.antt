@@ -4,7 +4,7 @@ use mathlib.Core.Path.{◌≡◌, ap, ◌∙◌}
 use mathlib.Core.Bool.{true, false, not}
 use mathlib.Core.List.{[]}
 use Rattle.word.specs.Setting.{STATE, PUT}
-use Rattle.word.specs.declared.setting.Check.TheVariants as check
+use Rattle.std.specs.declared.result.Result.TheVariants.{Ok}
 use Rattle.word.proofs.Settings.{hit, miss, no_more}
 use Rattle.channel.specs.State.{well_formed}
 use Rattle.channel.specs.Putting.{put_refused, with_put, unchanged, put_of}
@@ -20,6 +20,6 @@ module _ (c : Channel) (n : ℕ) where
     unfolding put_of
     by_put e = miss STATE _ (unchanged c) _ (ap not well) ∙ hit PUT [] (unchanged c) _ e
 
-    pub puts : put_refused c n ≡ false → put_of c n ≡ record { answer = check.Fine; channel = with_put c n }
+    pub puts : put_refused c n ≡ false → put_of c n ≡ record { answer = Ok tt; channel = with_put c n }
     unfolding put_of
     puts e = miss STATE _ (unchanged c) _ (ap not well) ∙ miss PUT [] (unchanged c) _ e ∙ no_more (unchanged c) _

@@ -16,7 +16,7 @@ use Rattle.channel.specs.Stepping.{acted_on}
 use Rattle.channel.specs.Outcomes.{StepsTo}
 use Rattle.channel.specs.Promises.{MakesMove, ReadAs}
 use Rattle.channel.specs.declared.record.Channel.{Channel}
-use Rattle.channel.specs.declared.stepping.Answer.TheVariants as answer
+use Rattle.std.specs.declared.result.Result.TheVariants.{Ok}
 use Rattle.channel.specs.declared.stepping.Stepped.{Stepped}
 use Rattle.channel.proofs.Answers as told
 use Rattle.channel.proofs.Answers.{kind_says, method_says}
@@ -39,11 +39,11 @@ read_as =
     record {
       command = λ c l exit r m h x.
           rw (goes c l exit r m h x.makes pusher.commands ((reads_command c.setup c.pusher l.pusher).1 x.reads))
-          (⊎_elim (λ a. inl (kind_says (ap answer.Event a))) (λ a. inr a.1) (says_command c.setup c.pusher c.puller l));
+          (⊎_elim (λ a. inl (kind_says (ap Ok a))) (λ a. inr a.1) (says_command c.setup c.pusher c.puller l));
       parameter = λ c l exit r m h x.
           let q = ap (λ (y : Stepped). y.answer) (goes c l exit r m h x.makes pusher.submits ((reads_parameter c.setup c.pusher l.pusher).1 x.reads)) in
-          ⊎_elim (λ a. inl (kind_says (q ∙ ap answer.Event a)))
-          (λ a. inr (number a.0, a.1, method_says (q ∙ ap answer.Event a.2)))
+          ⊎_elim (λ a. inl (kind_says (q ∙ ap Ok a)))
+          (λ a. inr (number a.0, a.1, method_says (q ∙ ap Ok a.2)))
           (says_method c.setup c.pusher c.puller l);
       says_command = λ c l exit r m a.
           let s = said_by c l exit r m (Plain kind.Command) pusher.commands (told.says_kind r.answer kind.Command a) only_command in

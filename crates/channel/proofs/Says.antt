@@ -33,7 +33,7 @@ use Rattle.channel.specs.Answers.{step_refusal}
 use Rattle.channel.specs.Stepping.{Outcome, Effect, Role, halted, retries, moves, role, finished, act, acted_on, acting, step_of}
 use Rattle.channel.specs.Outcomes.{StepsTo}
 use Rattle.channel.specs.declared.record.Channel.{Channel}
-use Rattle.channel.specs.declared.stepping.Answer.TheVariants as answer
+use Rattle.std.specs.declared.result.Result.TheVariants.{Ok}
 use Rattle.channel.specs.declared.stepping.Stepped.{Stepped}
 use Rattle.channel.proofs.ByRole.{step_tells, taken, GoesOn}
 
@@ -184,12 +184,12 @@ module _ (c : Channel) (l : Loan) where
       (exit : List ℕ) (r : Stepped)
       → StepsTo c l r exit
       → (e : Event) (x : pusher.Role)
-      → r.answer ≡ answer.Event e
+      → r.answer ≡ Ok e
       → only e ≡ some x
       → GoesOn c × (pusher.role c.setup c.pusher l.pusher ≡ x)
   unfolding step_refusal
   said_by exit r m e x a o =
-      let said : (step_of c l).stepped.answer ≡ answer.Event e = ap (λ (y : Stepped). y.answer) (sym m.answer) ∙ a in
-      let done : answer.Event acts.acted.event ≡ answer.Event e = ap (λ (y : Outcome). y.stepped.answer) (sym (taken c l (ap step_refusal said))) ∙ said in
+      let said : (step_of c l).stepped.answer ≡ Ok e = ap (λ (y : Stepped). y.answer) (sym m.answer) ∙ a in
+      let done : Ok acts.acted.event ≡ Ok e = ap (λ (y : Outcome). y.stepped.answer) (sym (taken c l (ap step_refusal said))) ∙ said in
       let same : acts.acted.event ≡ e = cc in
       act_own c.setup c.pusher c.puller l (role c.pusher c.puller) x (ap only same ∙ o)

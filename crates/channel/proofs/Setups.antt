@@ -11,7 +11,7 @@ use borrow.Author.Tests.{le-leb, lt-leb, eq-eqb, ne_eqb, ltb-true, ltb-false, eq
 use Rattle.word.specs.First.{choose, first, ◌when◌}
 use Rattle.word.specs.Setting.{LEVEL, MODE, SLI, level_refused, mode_refused, sli_refused, setting_cases, refused_or, check_of}
 use Rattle.word.specs.declared.setting.Refusal.{Refusal}
-use Rattle.word.specs.declared.setting.Check.TheVariants as check
+use Rattle.std.specs.declared.result.Result.TheVariants.{Ok, Err}
 use Rattle.word.proofs.Tests.{both}
 use Rattle.word.proofs.Settings.{refused_by, passed_by, no_more}
 use Rattle.pusher.specs.declared.record.Setup.{Setup}
@@ -53,11 +53,11 @@ module _ (s : Setup) where
       go false false false true z = refl
       go false false false false z = refl
 
-  pub setting_refused : (x : Refusal) → check_of s.setting ≡ check.Refused x → setup_fits s ≡ false
+  pub setting_refused : (x : Refusal) → check_of s.setting ≡ Err x → setup_fits s ≡ false
   unfolding setting_fits
   setting_refused x e = parts ∙ rw (refused_by s.setting [] (λ (x : Refusal). false) true x e)
 
-  module _ (fine : check_of s.setting ≡ check.Fine) where
+  module _ (fine : check_of s.setting ≡ Ok tt) where
     by_order : setup_fits s ≡ order_fits
     unfolding setting_fits
     by_order = parts ∙ rw (passed_by s.setting [] (λ (x : Refusal). false) true fine, no_more (λ (x : Refusal). false) true)

@@ -12,7 +12,7 @@ use lib.Pow.{pow_pos}
 use borrow.Author.Tests.{eq-eqb, ne_eqb, eqb-true, eqb-false}
 use Rattle.word.specs.First.{first}
 use Rattle.word.specs.Setting.{refused_or}
-use Rattle.word.specs.declared.setting.Check.TheVariants as check
+use Rattle.std.specs.declared.result.Result.TheVariants.{Ok}
 use Rattle.word.proofs.First.{choose_true, choose_false, by_test}
 use Rattle.word.proofs.Settings.{accepted}
 use Rattle.puller.specs.Widths.{PullerFits}
@@ -33,7 +33,8 @@ use Rattle.channel.specs.Stepping.{Effect, Role, halted, retries, moves, role, f
 use Rattle.channel.specs.Stepping as stepping
 use Rattle.channel.specs.Promises.{WellFormed, OfWords, open_plain, put_plain, step_plain}
 use Rattle.channel.specs.declared.record.Channel.{Channel}
-use Rattle.channel.specs.declared.opening.Opening.{Opening}
+use Rattle.std.specs.declared.result.Result.{Result}
+use Rattle.channel.specs.declared.opening.Unopened.{Unopened}
 use Rattle.channel.proofs.Refusals.{NoneOf, none_of, refused_one, put_agree, step_agree}
 use Rattle.channel.proofs.OpensPlainly.{opened_blank, opened_open, seven, open_first, open_agree}
 
@@ -104,7 +105,7 @@ blank_formed =
 
 -- opened and blank channels
 module _ (level mode order : ℕ) (sli : Bool) (mask limit : ℕ) (t : List ℕ) (low : limit < 2 ^ 32) where
-  abbrev answer : Opening
+  abbrev answer : Result Unit Unopened
   answer = opening_of level mode order sli mask t
 
   abbrev fresh : Channel
@@ -162,9 +163,9 @@ pub put_keeps : (c : Channel) (n : ℕ) → WellFormed c → n < 2 ^ 32 → Well
 unfolding put_of
 put_keeps c n w low = go (first (put_cases c n)) refl
   where
-    go : (o : Option ℕ) → first (put_cases c n) ≡ o → WellFormed (refused_or (unchanged c) o (record { answer = check.Fine; channel = with_put c n })).channel
-    go none e = rw (accepted (unchanged c) (record { answer = check.Fine; channel = with_put c n }) {o = none} refl) (put_formed c n w low (none_of (put_cases c n) (put_plain c n) (put_agree c n) e))
-    go (some k) e = rw (refused_one (unchanged c) (record { answer = check.Fine; channel = with_put c n }) k) w
+    go : (o : Option ℕ) → first (put_cases c n) ≡ o → WellFormed (refused_or (unchanged c) o (record { answer = Ok tt; channel = with_put c n })).channel
+    go none e = rw (accepted (unchanged c) (record { answer = Ok tt; channel = with_put c n }) {o = none} refl) (put_formed c n w low (none_of (put_cases c n) (put_plain c n) (put_agree c n) e))
+    go (some k) e = rw (refused_one (unchanged c) (record { answer = Ok tt; channel = with_put c n }) k) w
 
 -- a step
 module _ (c : Channel) (l : Loan) (w : WellFormed c) (lent : OfWords l) where

@@ -1,19 +1,22 @@
 -- Laws of the widths and alignments, and how a channel is well-formed where its parts are. Assumes nothing.
-use Prim.Native.Nat.{ℕ, ◌%◌, ◌^◌, ◌≤◌, ◌<◌}
+use Prim.Native.Nat.{ℕ, ◌^◌, ◌≤◌, ◌<◌}
 use mathlib.Core.Path.{◌≡◌, refl, sym, ap, ◌∙◌}
-use mathlib.Core.Bool.{Bool, true, false, ◌&&◌, and_assoc, and-true, and-false}
+use mathlib.Core.Bool.{Bool, true, false, not, ◌&&◌, and_assoc, and-false}
+use mathlib.Core.Logic.{◌↔◌}
+use native.Mathlib.Omega.{arith}
 use mathlib.Core.List.{List, [], ◌∷◌, ◌++◌}
-use mathlib.Core.Option.{none}
-use lib.Dec.{eqb, ltb}
+use lib.Dec.{ltb}
+use lib.ListN.{length}
+use Rattle.std.specs.Bool.{MatchBool}
+use Rattle.std.specs.List.{AllWithin, HoldsAt}
 use mir.Val.{Val}
 use denote.Laws.{Is}
 use denote.Struct.Declared.{row}
-use borrow.Author.Tests.{lt-ltb, le-ltb, le-leb, eq-eqb, ne_eqb}
+use borrow.Author.Tests.{lt-ltb, lt-leb, leb-false, not-true}
 use Rattle.word.proofs.Tests.{both}
-use Rattle.word.specs.Lowest.{lowest, found?}
 use Rattle.puller.specs.Record.{engine_of}
 use Rattle.puller.specs.declared.record.Puller.{Puller}
-use Rattle.word.proofs.Lowest.{lowest_at}
+use Rattle.word.proofs.Lowest.{found_none, none_found}
 use Rattle.channel.specs.State.{setup_fits, Width, ◌in_bits◌, within, address_widths, run_widths, puller_widths, engine_too_wide, engines_fit, other_widths, addresses, aligned, well_formed}
 use Rattle.channel.specs.declared.record.Channel.{Channel}
 use Rattle.channel.specs.contracts.record.Channel.{the_type}
@@ -24,43 +27,31 @@ unfolding within
 within_append [] b = refl
 within_append (w ∷ a) b = rw (within_append a b) (sym (and_assoc (ltb w.value (2 ^ w.bits)) (within a) (within b)))
 
--- a number that is too wide decides a list of widths, and one that is not is passed over
-module _ (v b : ℕ) (more : List Width) where
-  pub wide : 2 ^ b ≤ v → within (v in_bits b ∷ more) ≡ false
-  unfolding within
-  wide h = rw (le-ltb v (2 ^ b) h)
-
-  pub narrow : v < 2 ^ b → within (v in_bits b ∷ more) ≡ within more
-  unfolding within
-  narrow h = rw (lt-ltb v (2 ^ b) h)
-
-pub one_width : (v b : ℕ) → within (v in_bits b ∷ []) ≡ ltb v (2 ^ b)
+-- a number that is not too wide is passed over
+narrow : (v b : ℕ) (more : List Width) → v < 2 ^ b → within (v in_bits b ∷ more) ≡ within more
 unfolding within
-one_width v b = and-true (ltb v (2 ^ b))
+narrow v b more h = rw (lt-ltb v (2 ^ b) h)
 
--- and so with addresses that are multiples of 4
-module _ (a : ℕ) (more : List ℕ) where
-  pub uneven : (a % 4 ≡ 0 → ⊥) → aligned (a ∷ more) ≡ false
-  unfolding aligned
-  uneven n = rw (ne_eqb (a % 4) 0 n)
+-- the eight engines,
+pub engines_plain : (p : Puller) → engines_fit p ≡ true ↔ ((subchannel : ℕ) → subchannel < 8 → engine_of p subchannel < 2 ^ 5)
+unfolding engines_fit
+engines_plain p = (
+  λ e i l. leb-false _ _ (found_none (engine_too_wide p) 8 (not-true _ e) i l),
+  λ h. ap not (none_found (engine_too_wide p) 8 (λ i l. lt-leb _ _ (h i l))),
+)
 
-  pub even : a % 4 ≡ 0 → aligned (a ∷ more) ≡ aligned more
-  unfolding aligned
-  even e = rw (eq-eqb (a % 4) 0 e)
-
-pub one_address : (a : ℕ) → aligned (a ∷ []) ≡ eqb (a % 4) 0
-unfolding aligned
-one_address a = and-true (eqb (a % 4) 0)
-
--- an engine that is too wide, or none: how a loop over the eight comes to it
-module _ (p : Puller) where
-  pub engine_wide : (k : ℕ) → lowest (engine_too_wide p) k ≡ none → k < 8 → 32 ≤ engine_of p k → engines_fit p ≡ false
-  unfolding engines_fit found?
-  engine_wide k e l h = rw (lowest_at (engine_too_wide p) 8 k e l (le-leb 32 (engine_of p k) h))
-
-  pub engines_narrow : lowest (engine_too_wide p) 8 ≡ none → engines_fit p ≡ true
-  unfolding engines_fit found?
-  engines_narrow e = rw e
+-- and what a search of them for one that is too wide says
+pub engines_by :
+    (p : Puller) (r : Bool)
+    → length p.engines ≡ 8
+    → MatchBool r (AllWithin (λ e. e < 32) p.engines 0 (length p.engines)) ((k : ℕ) × (k < length p.engines) × HoldsAt (λ e. 32 ≤ e) p.engines k)
+    → r ≡ engines_fit p
+engines_by p true eight all = sym ((engines_plain p).1 (λ k l. all k 0 (omega arith) (omega arith)))
+engines_by p false eight wide = go (engines_fit p) refl
+  where
+    go : (t : Bool) → engines_fit p ≡ t → false ≡ engines_fit p
+    go true e = let narrow = (engines_plain p).0 e wide.0 (omega (arith, wide.1)) in absurd (omega (arith, narrow, wide.2 0))
+    go false e = sym e
 
 -- the other numbers of a channel that is handed to a function have 32 bits, as their types say
 pub others : (c : Channel) (vs : List Val) → Is (row the_type) c vs → within (other_widths c) ≡ true

@@ -1,20 +1,16 @@
 -- How a channel is opened.
-use Rattle.std.specs.Prelude.{ℕ, ◌%◌, Bool, true, false, not, ◌||◌, List, [], ◌∷◌, eqb, ltb, length, replicate}
+use Rattle.std.specs.Prelude.{ℕ, ◌%◌, Bool, true, false, not, ◌||◌, List, [], ◌∷◌, eqb, ltb, length, replicate, Result, Ok, Err, ⊤, Option, Some, None}
 use Rattle.word.specs.First.{choose, Case, first, ◌when◌}
 use Rattle.word.specs.Setting.{LEVEL, MODE, ORDER, SLI, FIELD, TABLE, level_refused, mode_refused, sli_refused, refused_or}
 use Rattle.puller.specs.Object.{repeat_of}
-use Rattle.puller.specs.declared.object.Repeat.{Repeat}
-use Rattle.puller.specs.declared.object.Repeat.TheVariants as repeat
 use Rattle.puller.specs.declared.record.Puller.{Puller}
-use Rattle.puller.specs.declared.record.PullerError.TheVariants as puller_cause
 use Rattle.puller.specs.declared.record.AcquireMode.TheVariants as mode
 use Rattle.pusher.specs.declared.record.Setup.{Setup}
 use Rattle.pusher.specs.declared.record.Pusher.{Pusher}
-use Rattle.pusher.specs.declared.record.PusherError.TheVariants as pusher_cause
 use Rattle.channel.specs.State.{order_refused}
 use Rattle.channel.specs.declared.record.Channel.{Channel}
-use Rattle.channel.specs.declared.opening.Opening.{Opening}
-use Rattle.channel.specs.declared.opening.Opening.TheVariants.{Open, Refused, Duplicate}
+use Rattle.channel.specs.declared.opening.Unopened.{Unopened}
+use Rattle.channel.specs.declared.opening.Unopened.TheVariants.{Refused, Duplicate}
 use Rattle.channel.specs.declared.opening.Opened.{Opened}
 
 -- R5: entries of four words, at most 1,024 of them
@@ -33,13 +29,13 @@ open_cases level mode order sli mask table =
     ∷ []
 
 -- R6: the last, with the entry whose handle stood before
-unfoldable pub duplicate_or : Repeat → Opening
-duplicate_or repeat.Nothing = Open
-duplicate_or (repeat.Entry i) = Duplicate i
+unfoldable pub duplicate_or : Option ℕ → Result ⊤ Unopened
+duplicate_or None = Ok tt
+duplicate_or (Some i) = Err (Duplicate i)
 
 -- R25: what opening answers
-unfoldable pub opening_of : ℕ → ℕ → ℕ → Bool → ℕ → List ℕ → Opening
-opening_of level mode order sli mask table = refused_or Refused (first (open_cases level mode order sli mask table)) (duplicate_or (repeat_of table))
+unfoldable pub opening_of : ℕ → ℕ → ℕ → Bool → ℕ → List ℕ → Result ⊤ Unopened
+opening_of level mode order sli mask table = refused_or (λ n. Err (Refused n)) (first (open_cases level mode order sli mask table)) (duplicate_or (repeat_of table))
 
 -- S1: the halves of a channel at rest
 abbrev pub pusher_at : ℕ → Bool → Pusher
@@ -52,7 +48,7 @@ pusher_at mask active =
       ib = record { get = 0; put = 0 };
       main = record { nonmain = false; mget = 0; valid = false };
       sli = record { mask = mask; active = active };
-      error = pusher_cause.None;
+      error = None;
     }
 
 abbrev pub puller_at_rest : Puller
@@ -63,7 +59,7 @@ puller_at_rest =
       reference = 0;
       semaphore = record { dma = 0; offset = 0; valid = false };
       acquire = record { active = false; value = 0; mode = mode.Old };
-      error = puller_cause.None;
+      error = None;
       long = record { address = 0; sequence = 0 };
     }
 
@@ -87,10 +83,9 @@ abbrev pub blank_channel : Channel
 blank_channel = resting_at (setup_with 0 0 false 0 0) 0 false
 
 -- R30, S1: which of the two an answer has beside it
-unfoldable pub opened : Opening → Channel → Opened
-opened Open c = record { answer = Open; channel = c }
-opened (Refused n) c = record { answer = Refused n; channel = blank_channel }
-opened (Duplicate i) c = record { answer = Duplicate i; channel = blank_channel }
+unfoldable pub opened : Result ⊤ Unopened → Channel → Opened
+opened (Ok u) c = record { answer = Ok u; channel = c }
+opened (Err y) c = record { answer = Err y; channel = blank_channel }
 
 unfoldable pub open_of : ℕ → ℕ → ℕ → Bool → ℕ → ℕ → List ℕ → Opened
 open_of level mode order sli mask limit table = opened (opening_of level mode order sli mask table) (fresh_channel level mode order sli mask limit)

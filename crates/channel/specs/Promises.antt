@@ -312,7 +312,7 @@ pub record KeepsAdvance (c : Channel) (l : Loan) (p : Pusher) : Type 0 where
 -- P21: q is the puller of c that its part of a step has stopped: a method that the pusher's move submits, or a retry
 pub record PullerFails (c : Channel) (l : Loan) (q : Puller) : Type 0 where
   pub take : (x : Pushed) (m : Method) → MakesMove c l.pusher x → Tells x.did 2 (method_values m) → puller.StoppedBy c.puller m q
-  pub retry : c.puller.acquire.active ≡ true → puller.Failed c.puller q.error q
+  pub retry : c.puller.acquire.active ≡ true → (e : PullerError) × puller.Failed c.puller e q
 
 -- the steps do what the sentences say, whole: those of the channel, of the pusher's move and of the puller;
 pub record Steps : Type 0 where

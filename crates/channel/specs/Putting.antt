@@ -1,9 +1,8 @@
 -- How put is set.
-use Rattle.std.specs.Prelude.{ℕ, ◌%◌, ◌^◌, Bool, not, List, [], ◌∷◌, eqb, leb}
+use Rattle.std.specs.Prelude.{ℕ, ◌%◌, ◌^◌, Bool, not, List, [], ◌∷◌, eqb, leb, Ok, Err}
 use Rattle.word.specs.First.{choose, Case, first, ◌when◌}
 use Rattle.word.specs.Setting.{STATE, PUT, refused_or}
 use Rattle.word.specs.declared.setting.Refusal.{Refusal}
-use Rattle.word.specs.declared.setting.Check.TheVariants as check
 use Rattle.pusher.specs.Record as pusher
 use Rattle.channel.specs.Record.{with_pusher}
 use Rattle.channel.specs.State.{well_formed}
@@ -26,7 +25,7 @@ with_put c n =
 
 -- R31: a refusal leaves the channel
 abbrev pub unchanged : Channel → Refusal → Put
-unchanged c n = record { answer = check.Refused n; channel = c }
+unchanged c n = record { answer = Err n; channel = c }
 
 unfoldable pub put_of : Channel → ℕ → Put
-put_of c n = refused_or (unchanged c) (first (put_cases c n)) (record { answer = check.Fine; channel = with_put c n })
+put_of c n = refused_or (unchanged c) (first (put_cases c n)) (record { answer = Ok tt; channel = with_put c n })

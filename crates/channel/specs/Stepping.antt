@@ -1,5 +1,5 @@
 -- One step of the channel (docs/CARD.md, S). What a step does, it does to the halves; the channel is put together again from them.
-use Rattle.std.specs.Prelude.{ℕ, Bool, not, ◌||◌, List, [], ◌∷◌, length}
+use Rattle.std.specs.Prelude.{ℕ, Bool, not, ◌||◌, List, [], ◌∷◌, length, Ok, Err}
 use Rattle.word.specs.First.{choose, Case, first, ◌when◌}
 use Rattle.word.specs.Setting.{STATE, SIZE, TABLE, size_refused, refused_or}
 use Rattle.word.specs.declared.setting.Level.{Level}
@@ -25,7 +25,6 @@ use Rattle.channel.specs.State.{well_formed}
 use Rattle.channel.specs.Opening.{table_refused}
 use Rattle.channel.specs.declared.record.Channel.{Channel}
 use Rattle.channel.specs.declared.stepping.Acted.{Acted}
-use Rattle.channel.specs.declared.stepping.Answer.TheVariants as answer
 use Rattle.channel.specs.declared.stepping.Stepped.{Stepped}
 
 -- What a step leaves: its answer with the channel, and the semaphore memory.
@@ -81,7 +80,7 @@ act s p q l moves = moved s p q l
 
 -- the channel with the halves that it leaves
 abbrev pub with_acted : Channel → Acted → Stepped
-with_acted c a = record { answer = answer.Event a.event; channel = with_halves c a.pusher a.puller }
+with_acted c a = record { answer = Ok a.event; channel = with_halves c a.pusher a.puller }
 
 abbrev pub acted_on : Channel → Effect → Outcome
 acted_on c x = record { stepped = with_acted c x.acted; memory = x.memory }
@@ -103,7 +102,7 @@ step_cases c l =
 
 -- R31: a refusal leaves the channel, and the memory
 abbrev pub refusing : Channel → Refusal → Stepped
-refusing c n = record { answer = answer.Refused n; channel = c }
+refusing c n = record { answer = Err n; channel = c }
 
 abbrev pub unchanged : Channel → Loan → Refusal → Outcome
 unchanged c l n = record { stepped = refusing c n; memory = l.puller.semaphores }

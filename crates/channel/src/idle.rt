@@ -2,26 +2,17 @@
 ghost use Rattle.channel.specs.Outcomes.{Idles};
 
 use crate::record::Channel;
-use crate::stepping::stopped;
 use word::Mode;
 
 impl Channel {
     // Whether a step would find nothing to do: told by the fields, without one.
+    #[tactic(auto, unfolding(crate::specs::Idle::idles, word::specs::First::choose))]
     pub fn idle(self) -> bool
         ensures { Idles self result }
     {
-        if stopped(self.pusher, self.puller) {
-            return false;
-        }
-        if self.puller.acquire.active {
-            return false;
-        }
-        if self.pusher.get != self.pusher.put {
-            return false;
-        }
-        if self.setup.setting.mode.number == Mode::IB.number {
-            return self.pusher.ib.get == self.pusher.ib.put;
-        }
-        true
+        !self.stopped()
+            && !self.puller.acquire.active
+            && self.pusher.get == self.pusher.put
+            && (self.setup.setting.mode != Mode::IB || self.pusher.ib.get == self.pusher.ib.put)
     }
 }

@@ -8,7 +8,7 @@ mod putting;
 mod record;
 mod stepping;
 
-pub use opening::{Opened, Opening};
+pub use opening::{Opened, Unopened};
 pub use putting::Put;
 pub use record::Channel;
-pub use stepping::{Answer, Stepped};
+pub use stepping::Stepped;

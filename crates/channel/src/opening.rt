@@ -1,33 +1,41 @@
 // How a channel is opened.
 ghost use Rattle.std.specs.Prelude.{◌≡◌};
 ghost use Rattle.channel.specs.State.{order_refused};
-ghost use Rattle.channel.specs.declared.opening.Opening.TheVariants.{Refused};
-ghost use Rattle.channel.specs.Opening.{table_refused, held_order, blank_channel, opened};
+ghost use Rattle.channel.specs.declared.opening.Unopened.TheVariants.{Refused};
+ghost use Rattle.channel.specs.Opening.{table_refused, opening_of, held_order, blank_channel};
 ghost use Rattle.channel.specs.Outcomes.{Opens};
 
 use crate::record::{Channel, resting};
-use puller::{Repeat, first_repeat};
+use puller::first_repeat;
 use pusher::Setup;
-use word::{Check, Level, Mode, Refusal, Setting};
+use word::{Level, Mode, Refusal, Setting};
 
-// What opening answers: open, or why not; of a handle that stands twice, the lowest entry that has it again.
-#[derive(Clone, Copy)]
-pub enum Opening {
-    Open,
+// Why a channel is not opened; of a handle that stands twice, the lowest entry that has it again.
+#[derive(Clone, Copy, PartialEq, Eq)]
+pub enum Unopened {
     Refused { refusal: Refusal },
     Duplicate { entry: usize },
+}
+
+impl From<Refusal> for Unopened {
+    ghost from_gives = { λ refusal error. error ≡ Refused refusal };
+
+    fn from(refusal: Refusal) -> Unopened {
+        Unopened::Refused { refusal }
+    }
 }
 
 // The fresh channel, or the blank one where opening is refused.
 #[derive(Clone, Copy)]
 pub struct Opened {
-    pub answer: Opening,
+    pub answer: Result<(), Unopened>,
     pub channel: Channel,
 }
 
 impl Channel {
     // Opens a channel at a level and in a mode; `order` is ib_order, which NV04-style holds as 0,
     // `mask` the SLI mask and `limit` dma_limit.
+    #[tactic(auto, unfolding(crate::specs::Opening::open_of, crate::specs::Opening::opened))]
     pub fn open(
         level: u32,
         mode: u32,
@@ -39,57 +47,56 @@ impl Channel {
     ) -> Opened
         ensures { Opens level mode order sli mask limit table.now result }
     {
-        let level = Level { number: level };
-        let mode = Mode { number: mode };
-        let without = Setting {
-            level,
-            mode,
-            sli: false,
+        let setting = Setting {
+            level: Level { number: level },
+            mode: Mode { number: mode },
+            sli,
         };
-        let check = without.check();
-        if let Check::Refused { refusal } = check {
-            return refused(refusal);
-        }
-        if no_order(mode, order) {
-            return refused(Refusal::ORDER);
-        }
-        let setting = Setting { level, mode, sli };
-        let check = setting.check();
-        if let Check::Refused { refusal } = check {
-            return refused(refusal);
-        }
-        if 0xfff < mask {
-            return refused(Refusal::FIELD);
-        }
-        if no_table(table.len()) {
-            return refused(Refusal::TABLE);
-        }
-        let repeat = first_repeat(table);
-        if let Repeat::Entry { index } = repeat {
-            return Opened {
-                answer: Opening::Duplicate { entry: index },
+        let answer = admitted(setting, order, mask, table);
+        match answer {
+            Ok(()) => Opened {
+                answer,
+                channel: resting(
+                    Setup {
+                        setting,
+                        order: held(setting.mode, order),
+                        limit,
+                    },
+                    mask,
+                    true,
+                ),
+            },
+            Err(_) => Opened {
+                answer,
                 channel: blank(),
-            };
-        }
-        let setup = Setup {
-            setting,
-            order: held(mode, order),
-            limit,
-        };
-        Opened {
-            answer: Opening::Open,
-            channel: resting(setup, mask, true),
+            },
         }
     }
 }
 
-#[tactic(auto, unfolding(crate::specs::Opening::opened))]
-fn refused(refusal: Refusal) -> Opened
-    ensures { result ≡ opened (Refused refusal) blank_channel }
+// Whether a channel is opened. LEVEL and MODE come before ORDER, and SLI behind it.
+#[tactic(auto, using(crate::proofs::Openings::by_mask, crate::proofs::Openings::by_order, crate::proofs::Openings::by_repeat, crate::proofs::Openings::by_setting, crate::proofs::Openings::by_sli, crate::proofs::Openings::by_table), unfolding(crate::specs::Opening::duplicate_or))]
+fn admitted(setting: Setting, order: u32, mask: u32, table: &[u32]) -> Result<(), Unopened>
+    ensures { result ≡ opening_of setting.level.number setting.mode.number order setting.sli mask table.now }
 {
-    Opened {
-        answer: Opening::Refused { refusal },
-        channel: blank(),
+    Setting {
+        sli: false,
+        ..setting
+    }
+    .check()?;
+    if no_order(setting.mode, order) {
+        return Err(Unopened::from(Refusal::ORDER));
+    }
+    setting.check()?;
+    if 0xfff < mask {
+        return Err(Unopened::from(Refusal::FIELD));
+    }
+    if no_table(table.len()) {
+        return Err(Unopened::from(Refusal::TABLE));
+    }
+    match first_repeat(table) {
+        Some(entry) => Err(Unopened::Duplicate { entry }),
+        None => Ok(()),
     }
 }
 
@@ -113,29 +120,20 @@ fn blank() -> Channel
 fn no_order(mode: Mode, order: u32) -> bool
     ensures { result ≡ order_refused mode.number order }
 {
-    if mode.number == Mode::IB.number {
-        return 12 < order;
-    }
-    false
+    mode == Mode::IB && 12 < order
 }
 
 // Whether TABLE refuses a table of so many words.
 pub(crate) fn no_table(words: usize) -> bool
     ensures { result ≡ table_refused words }
 {
-    if words % 4 != 0 {
-        return true;
-    }
-    4096 < words
+    words % 4 != 0 || 4096 < words
 }
 
 // The ib_order that a channel holds.
+#[tactic(auto, unfolding(crate::specs::Opening::held_order, word::specs::First::choose))]
 fn held(mode: Mode, order: u32) -> u32
     ensures { result ≡ held_order mode.number order }
 {
-    if mode.number == Mode::IB.number {
-        order
-    } else {
-        0
-    }
+    if mode == Mode::IB { order } else { 0 }
 }

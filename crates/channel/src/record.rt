@@ -4,9 +4,9 @@ ghost use Rattle.channel.specs.Record.{with_halves};
 ghost use Rattle.channel.specs.Opening.{resting_at};
 ghost use Rattle.channel.specs.State.{setup_fits, within, aligned, address_bits, address_widths, addresses, run_widths, puller_widths, engines_fit, well_formed};
 
-use puller::{Acquire, AcquireMode, LongSemaphore, Puller, PullerError, Semaphore};
-use pusher::{Ib, Main, Pusher, PusherError, Run, Setup, Sli, Subroutine};
-use word::{Check, Mode};
+use puller::{Acquire, AcquireMode, LongSemaphore, Puller, Semaphore};
+use pusher::{Ib, Main, Pusher, Run, Setup, Sli, Subroutine};
+use word::Mode;
 
 #[derive(Clone, Copy)]
 pub struct Channel {
@@ -40,7 +40,7 @@ pub(crate) fn resting(setup: Setup, mask: u32, active: bool) -> Channel
             valid: false,
         },
         sli: Sli { mask, active },
-        error: PusherError::None,
+        error: None,
     };
     let puller = Puller {
         engines: [0; 8],
@@ -56,7 +56,7 @@ pub(crate) fn resting(setup: Setup, mask: u32, active: bool) -> Channel
             value: 0,
             mode: AcquireMode::Old,
         },
-        error: PullerError::None,
+        error: None,
         long: LongSemaphore {
             address: 0,
             sequence: 0,
@@ -74,11 +74,10 @@ impl Channel {
     pub(crate) fn with_halves(self, pusher: Pusher, puller: Puller) -> Channel
         ensures { result ≡ with_halves self pusher puller }
     {
-        let setup = self.setup;
         Channel {
-            setup,
             pusher,
             puller,
+            ..self
         }
     }
 
@@ -87,70 +86,51 @@ impl Channel {
     pub(crate) fn well_formed(self) -> bool
         ensures { result ≡ well_formed self }
     {
-        if !set_up(self.setup) {
-            return false;
-        }
-        if !addressed(self.setup, self.pusher) {
-            return false;
-        }
-        if !running(self.pusher) {
-            return false;
-        }
-        bound(self.puller)
+        set_up(self.setup)
+            && addressed(self.setup, self.pusher)
+            && running(self.pusher)
+            && bound(self.puller)
     }
 }
 
 // Whether opening could have set it up so; NV04-style holds ib_order as 0.
+#[tactic(auto, using(crate::proofs::Setups::ib_order, crate::proofs::Setups::no_order, crate::proofs::Setups::setting_refused))]
 fn set_up(setup: Setup) -> bool
     ensures { result ≡ setup_fits setup }
 {
-    let setting = setup.setting;
-    let check = setting.check();
-    if let Check::Refused { .. } = check {
+    if setup.setting.check().is_err() {
         return false;
     }
-    if setting.mode.number == Mode::IB.number {
+    if setup.setting.mode == Mode::IB {
         return setup.order <= 12;
     }
     setup.order == 0
 }
 
 // Whether the addresses and indices are within their widths, and addresses multiples of 4.
+#[tactic(auto, unfolding(crate::specs::State::within, crate::specs::State::aligned))]
 fn addressed(setup: Setup, pusher: Pusher) -> bool
     requires { setup_fits setup ≡ true }
     ensures { result ≡ within (address_widths setup pusher) && aligned (addresses pusher) }
 {
     let top = top_address(setup);
-    if top <= pusher.get {
-        return false;
-    }
-    if top <= pusher.put {
-        return false;
-    }
-    if top <= pusher.main.mget {
-        return false;
-    }
     let indices = 1u32 << setup.order;
-    if indices <= pusher.ib.get {
-        return false;
-    }
-    if indices <= pusher.ib.put {
-        return false;
-    }
-    if pusher.get % 4 != 0 {
-        return false;
-    }
-    if pusher.put % 4 != 0 {
-        return false;
-    }
-    pusher.subroutine.back % 4 == 0
+    pusher.get < top
+        && pusher.put < top
+        && pusher.main.mget < top
+        && pusher.ib.get < indices
+        && pusher.ib.put < indices
+        && pusher.get % 4 == 0
+        && pusher.put % 4 == 0
+        && pusher.subroutine.back % 4 == 0
 }
 
 // The first address that is too wide.
+#[tactic(auto, unfolding(crate::specs::State::address_bits, word::specs::First::choose))]
 fn top_address(setup: Setup) -> u64
     ensures { result ≡ 2 ^ address_bits setup }
 {
-    if setup.setting.mode.number == Mode::IB.number {
+    if setup.setting.mode == Mode::IB {
         0x100_0000_0000
     } else {
         0x1_0000_0000
@@ -158,36 +138,21 @@ fn top_address(setup: Setup) -> u64
 }
 
 // Whether the run and the SLI mask are within their widths.
+#[tactic(auto, unfolding(crate::specs::State::within))]
 fn running(pusher: Pusher) -> bool
     ensures { result ≡ within (run_widths pusher) }
 {
-    if 0x100_0000 <= pusher.run.count {
-        return false;
-    }
-    if 0x1000 <= pusher.sli.mask {
-        return false;
-    }
-    if 2048 <= pusher.run.method {
-        return false;
-    }
-    pusher.run.subchannel < 8
+    pusher.run.count < 0x100_0000
+        && pusher.sli.mask < 0x1000
+        && pusher.run.method < 2048
+        && pusher.run.subchannel < 8
 }
 
 // Whether the long semaphore's address and every engine are within their widths.
 fn bound(puller: Puller) -> bool
     ensures { result ≡ within (puller_widths puller) && engines_fit puller }
 {
-    if 32 <= puller.last {
-        return false;
-    }
-    if 0x100_0000_0000 <= puller.long.address {
-        return false;
-    }
-    let engines = puller.engines;
-    for subchannel in 0..8 {
-        if 32 <= engines[subchannel] {
-            return false;
-        }
-    }
-    true
+    puller.last < 32
+        && puller.long.address < 0x100_0000_0000
+        && puller.engines.iter().all(|&engine| engine < 32)
 }

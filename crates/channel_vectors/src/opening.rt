@@ -1,34 +1,21 @@
 // A record of an opening.
 use crate::answer::repeated;
-use crate::difference::{Difference, answers, channels, first};
-use crate::input::{Input, next_word};
-use crate::outcome::{Asked, Outcome, opened};
+use crate::difference::{Difference, Part, compared};
+use crate::outcome::{Asked, Outcome};
 use crate::pool::load_table;
 use crate::state::next_channel;
+use records::Words;
 
-pub(crate) fn next_asked(input: &mut Input<'_>) -> Asked {
-    Asked {
-        level: next_word(input),
-        mode: next_word(input),
-        order: next_word(input),
-        sli: next_word(input) != 0,
-        mask: next_word(input),
-        limit: next_word(input),
-    }
-}
-
-pub(crate) fn open(input: &mut Input<'_>, table: &mut [u32]) -> Difference {
-    let asked = next_asked(input);
-    let lent = next_word(input) as usize;
+pub(crate) fn open(input: &mut Words<'_>, table: &mut [u32]) -> Option<Difference> {
+    let asked = Asked::next(input);
+    let lent = input.next_word() as usize;
     load_table(input, table);
-    open_held(input, opened(asked, table, lent))
-}
-
-fn open_held(input: &mut Input<'_>, outcome: Outcome) -> Difference {
-    let answer = outcome.answer;
-    let channel = outcome.channel;
-    let refusal = next_word(input);
-    let entry = next_word(input);
-    let answer = answers(repeated(refusal, entry), answer);
-    first(answer, channels(next_channel(input), channel))
+    let outcome = Outcome::opened(asked, table, lent);
+    let answer = repeated(input.next_word(), input.next_word());
+    let channel = next_channel(input);
+    compared(Part::Answer, &answer, &outcome.answer).or(compared(
+        Part::Channel,
+        &channel,
+        &outcome.channel,
+    ))
 }

@@ -1,150 +1,169 @@
 // What is done with a channel, held to the model's answer: that comes next on standard input.
 use crate::answer::{next_answer, refused};
-use crate::difference::{Difference, answers, far, first, same, unknown};
-use crate::input::{Input, next_pair, next_word};
-use crate::outcome::{Outcome, put_set, stepped};
-use crate::pair::{Pair, channel_held, next_deltas, with_channel, with_semaphore};
-use crate::pool::{Lent, MOST_ENTRIES, MOST_GIVEN, put};
+use crate::difference::{Difference, Part, compared, far};
+use crate::outcome::Outcome;
+use crate::pair::Pair;
+use crate::pool::{Lent, MOST_GIVEN, Memory};
+use records::Words;
 
-// The operations' numbers.
-pub const PUT: u32 = 1;
+#[derive(Clone, Copy)]
+pub enum Operation {
+    Put = 1,
+    Store,
+    Step,
+}
 
-pub const STORE: u32 = 2;
+impl TryFrom<u8> for Operation {
+    type Error = Difference;
 
-pub const STEP: u32 = 3;
+    fn try_from(number: u8) -> Result<Operation, Difference> {
+        match number {
+            1 => Ok(Operation::Put),
+            2 => Ok(Operation::Store),
+            3 => Ok(Operation::Step),
+            _ => Err(Difference::Form {
+                number: u32::from(number),
+            }),
+        }
+    }
+}
 
-// The channel after an operation, whether it was a step, and where library and model part.
+// The operation's number, and how many words of the channel and of the semaphores are others after it.
+#[derive(Clone, Copy)]
+pub struct Header {
+    pub number: u8,
+    pub deltas: u8,
+    pub changes: u16,
+}
+
+impl Header {
+    pub(crate) fn next(input: &mut Words<'_>) -> Header {
+        let [number, deltas, low, high] = input.next_word().to_le_bytes();
+        Header {
+            number,
+            deltas,
+            changes: u16::from_le_bytes([low, high]),
+        }
+    }
+
+    // Whether a header is of the operation that its record is.
+    pub(crate) fn of(self, operation: Operation) -> Option<Difference> {
+        if self.number == operation as u8 {
+            return None;
+        }
+        Some(Difference::Form {
+            number: u32::from(self.number),
+        })
+    }
+}
+
+// Whether an operation of a run was a step, and where library and model part.
 #[derive(Clone, Copy)]
 pub struct Done {
-    pub pair: Pair,
-    pub steps: u32,
-    pub difference: Difference,
+    pub step: bool,
+    pub difference: Option<Difference>,
 }
 
 // The next operation of a run.
 pub(crate) fn next_operation(
-    input: &mut Input<'_>,
-    pair: Pair,
-    words: &[u32],
-    entries: [u64; MOST_ENTRIES],
-    table: &[u32],
-    semaphores: &mut [u32],
+    input: &mut Words<'_>,
+    pair: &mut Pair,
+    memory: &mut Memory<'_>,
 ) -> Done {
-    let header = next_word(input);
-    let number = header % 0x100;
-    if number == PUT {
-        let put = next_word(input);
-        return set(input, pair, put, header);
-    }
-    if number == STORE {
-        return stored(input, pair, semaphores);
-    }
-    if number == STEP {
-        let lent = next_lent(input);
-        return step(input, pair, header, lent, words, entries, table, semaphores);
-    }
-    Done {
-        pair,
-        steps: 0,
-        difference: unknown(number),
+    let header = Header::next(input);
+    match Operation::try_from(header.number) {
+        Ok(Operation::Put) => {
+            let put = input.next_word();
+            Done {
+                step: false,
+                difference: set(input, pair, put, header),
+            }
+        }
+        Ok(Operation::Store) => {
+            store(input, pair, memory.semaphores);
+            Done {
+                step: false,
+                difference: None,
+            }
+        }
+        Ok(Operation::Step) => {
+            let lent = Lent::next_packed(input);
+            Done {
+                step: true,
+                difference: step(input, pair, header, lent, memory),
+            }
+        }
+        Err(unknown) => Done {
+            step: false,
+            difference: Some(unknown),
+        },
     }
 }
 
 // Put is set.
-pub(crate) fn set(input: &mut Input<'_>, pair: Pair, put: u32, header: u32) -> Done {
-    let channel = pair.got;
-    let outcome = put_set(channel, put);
-    let right = refused(next_word(input));
-    held(input, pair, outcome, right, header, 0)
+pub(crate) fn set(
+    input: &mut Words<'_>,
+    pair: &mut Pair,
+    put: u32,
+    header: Header,
+) -> Option<Difference> {
+    let outcome = Outcome::put_set(pair.got, put);
+    let right = refused(input.next_word());
+    held(input, pair, outcome, right, header)
 }
 
 // What came of an operation, held to the model's answer, and to its channel after the words that follow.
 fn held(
-    input: &mut Input<'_>,
-    pair: Pair,
+    input: &mut Words<'_>,
+    pair: &mut Pair,
     outcome: Outcome,
     right: [u32; 6],
-    header: u32,
-    steps: u32,
-) -> Done {
-    let answer = outcome.answer;
-    let channel = outcome.channel;
-    let pair = next_deltas(input, with_channel(pair, channel), header / 0x100 % 0x100);
-    Done {
-        pair,
-        steps,
-        difference: first(answers(right, answer), channel_held(pair)),
+    header: Header,
+) -> Option<Difference> {
+    pair.got = outcome.channel;
+    for _ in 0..header.deltas {
+        pair.next_delta(input);
     }
+    compared(Part::Answer, &right, &outcome.answer).or(pair.channel_held())
 }
 
 // The host stores a semaphore word.
-fn stored(input: &mut Input<'_>, pair: Pair, semaphores: &mut [u32]) -> Done {
-    let place = next_word(input) as usize;
-    let word = next_word(input);
-    put(semaphores, place, word);
-    Done {
-        pair: with_semaphore(pair, place, word),
-        steps: 0,
-        difference: same(),
+fn store(input: &mut Words<'_>, pair: &mut Pair, semaphores: &mut [u32]) {
+    let place = input.next_word() as usize;
+    let word = input.next_word();
+    if let Some(semaphore) = semaphores.get_mut(place) {
+        *semaphore = word;
     }
-}
-
-// How much is lent to a step of a run, in one word; then the clock.
-fn next_lent(input: &mut Input<'_>) -> Lent {
-    let word = next_word(input) as usize;
-    Lent {
-        words: word % 0x100,
-        entries: word / 0x100 % 0x100,
-        table: word / 0x1_0000 % 0x100,
-        semaphores: word / 0x100_0000,
-        clock: next_pair(input),
-    }
+    pair.set_semaphore(place, word);
 }
 
 pub(crate) fn step(
-    input: &mut Input<'_>,
-    pair: Pair,
-    header: u32,
+    input: &mut Words<'_>,
+    pair: &mut Pair,
+    header: Header,
     lent: Lent,
-    words: &[u32],
-    entries: [u64; MOST_ENTRIES],
-    table: &[u32],
-    semaphores: &mut [u32],
-) -> Done {
-    let channel = pair.got;
-    let outcome = stepped(channel, lent, words, &entries, table, semaphores);
+    memory: &mut Memory<'_>,
+) -> Option<Difference> {
+    let outcome = Outcome::stepped(pair.got, lent, memory);
     let right = next_answer(input);
-    let done = held(input, pair, outcome, right, header, 1);
-    next_changes(input, done, semaphores, header / 0x1_0000)
+    let mut difference = held(input, pair, outcome, right, header);
+    for _ in 0..header.changes {
+        difference = difference.or(next_change(input, pair, memory.semaphores));
+    }
+    difference
 }
 
-// The semaphore words that are others now.
-fn next_changes(input: &mut Input<'_>, done: Done, semaphores: &mut [u32], count: u32) -> Done {
-    let mut done = done;
-    for _ in 0..count {
-        done = next_change(input, done, semaphores);
+// A semaphore word that is another now. One of the first is the model's, and compared later; one past them here.
+fn next_change(
+    input: &mut Words<'_>,
+    pair: &mut Pair,
+    semaphores: &mut [u32],
+) -> Option<Difference> {
+    let place = input.next_word() as usize;
+    let word = input.next_word();
+    if MOST_GIVEN <= place {
+        return far(semaphores, place, word);
     }
-    done
-}
-
-// One of the first is the model's, and compared later; one past them here.
-fn next_change(input: &mut Input<'_>, done: Done, semaphores: &mut [u32]) -> Done {
-    let pair = done.pair;
-    let difference = done.difference;
-    let steps = done.steps;
-    let place = next_word(input) as usize;
-    let word = next_word(input);
-    if place < MOST_GIVEN {
-        return Done {
-            pair: with_semaphore(pair, place, word),
-            steps,
-            difference,
-        };
-    }
-    let here = far(semaphores, place, word);
-    Done {
-        pair,
-        steps,
-        difference: first(difference, here),
-    }
+    pair.set_semaphore(place, word);
+    None
 }

@@ -3,9 +3,10 @@
 // is handed on, and of a row of words only the row.
 use crate::answer::{told_opening, told_put, told_step};
 use crate::layout::CHANNEL_WORDS;
-use crate::pool::{Lent, within};
+use crate::pool::{Lent, Memory};
 use crate::state::{channel_of, words_of};
 use channel::{Channel, Opened, Put, Stepped};
+use records::Words;
 
 #[derive(Clone, Copy)]
 pub struct Outcome {
@@ -24,67 +25,77 @@ pub struct Asked {
     pub limit: u32,
 }
 
-pub(crate) fn opened(asked: Asked, table: &[u32], lent: usize) -> Outcome {
-    let t = within(lent, table.len());
-    of_opening(Channel::open(
-        asked.level,
-        asked.mode,
-        asked.order,
-        asked.sli,
-        asked.mask,
-        asked.limit,
-        &table[..t],
-    ))
+impl Asked {
+    pub(crate) fn next(input: &mut Words<'_>) -> Asked {
+        Asked {
+            level: input.next_word(),
+            mode: input.next_word(),
+            order: input.next_word(),
+            sli: input.next_word() != 0,
+            mask: input.next_word(),
+            limit: input.next_word(),
+        }
+    }
+}
+
+impl Outcome {
+    pub(crate) fn opened(asked: Asked, table: &[u32], lent: usize) -> Outcome {
+        let t = lent.min(table.len());
+        of_opening(Channel::open(
+            asked.level,
+            asked.mode,
+            asked.order,
+            asked.sli,
+            asked.mask,
+            asked.limit,
+            &table[..t],
+        ))
+    }
+
+    pub(crate) fn put_set(channel: [u32; CHANNEL_WORDS], put: u32) -> Outcome {
+        of_put(channel_of(channel).set_put(put))
+    }
+
+    pub(crate) fn stepped(
+        channel: [u32; CHANNEL_WORDS],
+        lent: Lent,
+        memory: &mut Memory<'_>,
+    ) -> Outcome {
+        let entries = memory.entries;
+        let words = &mut *memory.words;
+        let table = &mut *memory.table;
+        let semaphores = &mut *memory.semaphores;
+        let w = lent.words.min(words.len());
+        let e = lent.entries.min(entries.len());
+        let t = lent.table.min(table.len());
+        let s = lent.semaphores.min(semaphores.len());
+        of_step(channel_of(channel).step(
+            &words[..w],
+            &entries[..e],
+            &table[..t],
+            &mut semaphores[..s],
+            lent.clock,
+        ))
+    }
 }
 
 fn of_opening(opened: Opened) -> Outcome {
-    let answer = opened.answer;
-    let channel = opened.channel;
     Outcome {
-        answer: told_opening(answer),
-        channel: words_of(channel),
+        answer: told_opening(opened.answer),
+        channel: words_of(opened.channel),
     }
-}
-
-pub(crate) fn put_set(channel: [u32; CHANNEL_WORDS], put: u32) -> Outcome {
-    of_put(channel_of(channel).set_put(put))
 }
 
 fn of_put(set: Put) -> Outcome {
-    let answer = set.answer;
-    let channel = set.channel;
     Outcome {
-        answer: told_put(answer),
-        channel: words_of(channel),
+        answer: told_put(set.answer),
+        channel: words_of(set.channel),
     }
 }
 
-pub(crate) fn stepped(
-    channel: [u32; CHANNEL_WORDS],
-    lent: Lent,
-    words: &[u32],
-    entries: &[u64],
-    table: &[u32],
-    semaphores: &mut [u32],
-) -> Outcome {
-    let w = within(lent.words, words.len());
-    let e = within(lent.entries, entries.len());
-    let t = within(lent.table, table.len());
-    let s = within(lent.semaphores, semaphores.len());
-    of_step(channel_of(channel).step(
-        &words[..w],
-        &entries[..e],
-        &table[..t],
-        &mut semaphores[..s],
-        lent.clock,
-    ))
-}
-
 fn of_step(stepped: Stepped) -> Outcome {
-    let answer = stepped.answer;
-    let channel = stepped.channel;
     Outcome {
-        answer: told_step(answer),
-        channel: words_of(channel),
+        answer: told_step(stepped.answer),
+        channel: words_of(stepped.channel),
     }
 }

@@ -1,9 +1,9 @@
 // A channel as the library has it and as the model has it, in words, and the model's semaphore words, of
 // which a record can give the first. The model's come from standard input, as changes.
-use crate::difference::{Difference, SEMAPHORE, channels, compared};
-use crate::input::{Input, next_word};
+use crate::difference::{Difference, Part, compared};
 use crate::layout::CHANNEL_WORDS;
-use crate::pool::{MOST_GIVEN, at};
+use crate::pool::MOST_GIVEN;
+use records::Words;
 
 #[derive(Clone, Copy)]
 pub struct Pair {
@@ -12,76 +12,45 @@ pub struct Pair {
     pub memory: [u32; MOST_GIVEN],
 }
 
-// Both start as the same channel, and the model's semaphore words as those of the pool.
-pub(crate) fn paired(channel: [u32; CHANNEL_WORDS], semaphores: &[u32]) -> Pair {
-    Pair {
-        got: channel,
-        wanted: channel,
-        memory: first_of(semaphores),
+impl Pair {
+    // Both start as the same channel, and the model's semaphore words as those of the pool.
+    pub(crate) fn new(channel: [u32; CHANNEL_WORDS], semaphores: &[u32]) -> Pair {
+        let mut memory = [0; MOST_GIVEN];
+        for (word, of_pool) in memory.iter_mut().zip(semaphores) {
+            *word = *of_pool;
+        }
+        Pair {
+            got: channel,
+            wanted: channel,
+            memory,
+        }
     }
-}
 
-fn first_of(semaphores: &[u32]) -> [u32; MOST_GIVEN] {
-    let mut memory = [0u32; MOST_GIVEN];
-    for i in 0..MOST_GIVEN {
-        memory[i] = at(semaphores, i);
+    // A word of the model's channel that is another now: a place, and in the same word or the next the word there.
+    pub(crate) fn next_delta(&mut self, input: &mut Words<'_>) {
+        let delta = input.next_word();
+        let place = (delta % 0x80) as usize;
+        let word = if delta / 0x80 % 2 == 0 {
+            delta / 0x100
+        } else {
+            input.next_word()
+        };
+        if let Some(wanted) = self.wanted.get_mut(place) {
+            *wanted = word;
+        }
     }
-    memory
-}
 
-// The library has another channel now.
-pub(crate) fn with_channel(pair: Pair, channel: [u32; CHANNEL_WORDS]) -> Pair {
-    let mut next = pair;
-    next.got = channel;
-    next
-}
-
-// The words of the model's channel that are others now.
-pub(crate) fn next_deltas(input: &mut Input<'_>, pair: Pair, count: u32) -> Pair {
-    let mut pair = pair;
-    for _ in 0..count {
-        pair = next_delta(input, pair);
+    pub(crate) fn set_semaphore(&mut self, place: usize, word: u32) {
+        if let Some(semaphore) = self.memory.get_mut(place) {
+            *semaphore = word;
+        }
     }
-    pair
-}
 
-// A place, and in the same word or the next the word there.
-fn next_delta(input: &mut Input<'_>, pair: Pair) -> Pair {
-    let word = next_word(input);
-    let place = (word % 0x80) as usize;
-    if word / 0x80 % 2 == 0 {
-        return with_word(pair, place, word / 0x100);
+    pub(crate) fn channel_held(&self) -> Option<Difference> {
+        compared(Part::Channel, &self.wanted, &self.got)
     }
-    with_word(pair, place, next_word(input))
-}
 
-fn with_word(pair: Pair, place: usize, word: u32) -> Pair {
-    let mut next = pair;
-    if place < CHANNEL_WORDS {
-        next.wanted[place] = word;
+    pub(crate) fn memory_held(&self, semaphores: &[u32]) -> Option<Difference> {
+        compared(Part::Semaphore, &self.memory, semaphores)
     }
-    next
-}
-
-pub(crate) fn with_semaphore(pair: Pair, place: usize, word: u32) -> Pair {
-    let mut next = pair;
-    if place < MOST_GIVEN {
-        next.memory[place] = word;
-    }
-    next
-}
-
-pub(crate) fn channel_held(pair: Pair) -> Difference {
-    let wanted = pair.wanted;
-    let got = pair.got;
-    channels(wanted, got)
-}
-
-pub(crate) fn memory_held(pair: Pair, semaphores: &[u32]) -> Difference {
-    let wanted = pair.memory;
-    semaphores_held(wanted, semaphores)
-}
-
-fn semaphores_held(wanted: [u32; MOST_GIVEN], semaphores: &[u32]) -> Difference {
-    compared(SEMAPHORE, &wanted, semaphores)
 }

@@ -1,8 +1,6 @@
 // The pools whose first words a record lends: most of their words are the pools' own, and the record
 // gives those at the start.
-ghost use Rattle.std.specs.Prelude.{◌≤◌};
-
-use crate::input::{Input, next_pair, next_up_to, next_word};
+use records::Words;
 
 // The most words of a pool that a record gives.
 pub const MOST_GIVEN: usize = 64;
@@ -10,10 +8,44 @@ pub const MOST_GIVEN: usize = 64;
 // The most IB entries that it gives.
 pub const MOST_ENTRIES: usize = 32;
 
-// The table pool's own word `i` is this and `i`.
+// The table pool's own words are this and those above it.
 const TABLE_WORD: u32 = 0x8000_0000;
 
 pub const TABLE_WORDS: usize = 4104;
+
+// One word more than may be lent, so that SIZE is tried.
+pub const LARGE_WORDS: usize = 1_048_577;
+
+// Two pools for words and semaphores, the small one of `MOST_GIVEN`, and one for the table.
+#[derive(Drop)]
+pub(crate) struct Pools<'a> {
+    pub(crate) small: &'a mut [u32],
+    pub(crate) large: &'a mut [u32],
+    pub(crate) table: &'a mut [u32],
+}
+
+// What a record's steps are lent of: the entries are as many as it gives, and zeros behind them.
+#[derive(Drop)]
+pub(crate) struct Memory<'a> {
+    pub(crate) words: &'a mut [u32],
+    pub(crate) entries: [u64; MOST_ENTRIES],
+    pub(crate) table: &'a mut [u32],
+    pub(crate) semaphores: &'a mut [u32],
+}
+
+impl Memory<'_> {
+    // Reads what a record gives, and says how many words of the table that is.
+    pub(crate) fn load(&mut self, input: &mut Words<'_>) -> usize {
+        let table = load_table(input, self.table);
+        load(input, self.words);
+        let given = input.next_up_to(MOST_ENTRIES);
+        for entry in self.entries.iter_mut().take(given) {
+            *entry = input.next_pair();
+        }
+        load(input, self.semaphores);
+        table
+    }
+}
 
 // How much of each pool is lent to a step, and the clock.
 #[derive(Clone, Copy)]
@@ -25,83 +57,50 @@ pub struct Lent {
     pub clock: u64,
 }
 
-// What a record gives: how many words of the table, and its entries.
-#[derive(Clone, Copy)]
-pub struct Given {
-    pub table: usize,
-    pub entries: [u64; MOST_ENTRIES],
-}
+impl Lent {
+    pub(crate) fn next(input: &mut Words<'_>) -> Lent {
+        Lent {
+            words: input.next_word() as usize,
+            entries: input.next_word() as usize,
+            table: input.next_word() as usize,
+            semaphores: input.next_word() as usize,
+            clock: input.next_pair(),
+        }
+    }
 
-// What is lent of a pool of so many words.
-pub(crate) fn within(lent: usize, len: usize) -> usize
-    ensures { result ≤ len }
-{
-    if lent < len { lent } else { len }
-}
-
-// A word, 0 past the end.
-pub(crate) fn at(words: &[u32], i: usize) -> u32 {
-    if i < words.len() { words[i] } else { 0 }
-}
-
-pub(crate) fn put(words: &mut [u32], i: usize, word: u32) {
-    if i < words.len() {
-        words[i] = word;
+    // The same where one word says how much, for a step of a run.
+    pub(crate) fn next_packed(input: &mut Words<'_>) -> Lent {
+        let [words, entries, table, semaphores] = input.next_word().to_le_bytes();
+        Lent {
+            words: usize::from(words),
+            entries: usize::from(entries),
+            table: usize::from(table),
+            semaphores: usize::from(semaphores),
+            clock: input.next_pair(),
+        }
     }
 }
 
-// Reads what a record gives: the pools are filled, the entries handed on.
-pub(crate) fn load_pools(
-    input: &mut Input<'_>,
-    words: &mut [u32],
-    table: &mut [u32],
-    semaphores: &mut [u32],
-) -> Given {
-    let count = load_table(input, table);
-    load(input, words);
-    let entries = next_entries(input);
-    load(input, semaphores);
-    Given {
-        table: count,
-        entries,
-    }
-}
-
-// The words of the pushbuffer, or the semaphore words.
-fn load(input: &mut Input<'_>, pool: &mut [u32]) {
-    load_words(input, pool, MOST_GIVEN, false);
-}
-
-pub(crate) fn load_table(input: &mut Input<'_>, table: &mut [u32]) -> usize {
-    load_words(input, table, TABLE_WORDS, true)
-}
-
-// Reads the words that the record gives, and says how many these are. Behind them, where an earlier record
+// The words of the pushbuffer, or the semaphore words. Behind those that the record gives, where an earlier record
 // may have given some, the pool has its own again.
-fn load_words(input: &mut Input<'_>, pool: &mut [u32], end: usize, table: bool) -> usize {
-    let given = next_up_to(input, MOST_GIVEN);
-    for i in 0..end {
-        put(pool, i, given_or_own(input, i, given, table));
+fn load(input: &mut Words<'_>, pool: &mut [u32]) {
+    let most = pool.len().min(MOST_GIVEN);
+    pool[..most].fill(0);
+    load_given(input, pool);
+}
+
+// The same of the table; says how many words the record gives.
+pub(crate) fn load_table(input: &mut Words<'_>, table: &mut [u32]) -> usize {
+    for (own, word) in (TABLE_WORD..=u32::MAX).zip(table.iter_mut()) {
+        *word = own;
+    }
+    load_given(input, table)
+}
+
+fn load_given(input: &mut Words<'_>, pool: &mut [u32]) -> usize {
+    let given = input.next_up_to(MOST_GIVEN);
+    for word in pool.iter_mut().take(given) {
+        *word = input.next_word();
     }
     given
-}
-
-fn given_or_own(input: &mut Input<'_>, i: usize, given: usize, table: bool) -> u32 {
-    if i < given {
-        return next_word(input);
-    }
-    if table {
-        return TABLE_WORD | (i % TABLE_WORDS) as u32;
-    }
-    0
-}
-
-// No record lends more entries than it gives.
-fn next_entries(input: &mut Input<'_>) -> [u64; MOST_ENTRIES] {
-    let mut entries = [0u64; MOST_ENTRIES];
-    let given = next_up_to(input, MOST_ENTRIES);
-    for i in 0..given {
-        entries[i] = next_pair(input);
-    }
-    entries
 }

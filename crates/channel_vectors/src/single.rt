@@ -1,46 +1,29 @@
 // Records of one operation on a channel that is given, be it well-formed or not.
-use crate::difference::{Difference, far, first, same, unknown};
-use crate::input::{Input, next_pair, next_word};
+use crate::difference::{Difference, Part};
 use crate::layout::CHANNEL_WORDS;
-use crate::operation::{PUT, STEP, set, step};
-use crate::pair::{Pair, memory_held, paired};
-use crate::pool::{Lent, MOST_ENTRIES, MOST_GIVEN, load_pools, within};
+use crate::operation::{Header, Operation, set, step};
+use crate::pair::Pair;
+use crate::pool::{Lent, MOST_ENTRIES, MOST_GIVEN, Memory, Pools};
 use crate::state::next_channel;
+use records::Words;
+use std::mem;
 
-pub(crate) fn put(input: &mut Input<'_>) -> Difference {
+pub(crate) fn put(input: &mut Words<'_>) -> Option<Difference> {
     let given = next_channel(input);
-    let put = next_word(input);
-    let header = next_word(input);
-    let done = set(input, paired(given, &[0]), put, header);
-    let difference = done.difference;
-    first(of(header, PUT), difference)
-}
-
-// Whether a header is of the operation that its record is.
-fn of(header: u32, operation: u32) -> Difference {
-    let number = header % 0x100;
-    if number == operation {
-        return same();
-    }
-    unknown(number)
+    let put = input.next_word();
+    let header = Header::next(input);
+    let difference = set(input, &mut Pair::new(given, &[]), put, header);
+    header.of(Operation::Put).or(difference)
 }
 
 // One step. One pool has 1,048,577 words. So the longer of words and semaphores is lent from the large
 // pool, and the other from the small one: no record lends more than that has of both.
-pub(crate) fn single(
-    input: &mut Input<'_>,
-    small: &mut [u32],
-    large: &mut [u32],
-    table: &mut [u32],
-) -> Difference {
+pub(crate) fn single(input: &mut Words<'_>, pools: &mut Pools<'_>) -> Option<Difference> {
     let given = next_channel(input);
-    let lent = Lent {
-        words: next_word(input) as usize,
-        entries: next_word(input) as usize,
-        table: next_word(input) as usize,
-        semaphores: next_word(input) as usize,
-        clock: next_pair(input),
-    };
+    let lent = Lent::next(input);
+    let small = &mut *pools.small;
+    let large = &mut *pools.large;
+    let table = &mut *pools.table;
     if lent.semaphores < lent.words {
         return single_in(input, given, lent, large, table, small);
     }
@@ -48,48 +31,46 @@ pub(crate) fn single(
 }
 
 fn single_in(
-    input: &mut Input<'_>,
+    input: &mut Words<'_>,
     given: [u32; CHANNEL_WORDS],
     lent: Lent,
     words: &mut [u32],
     table: &mut [u32],
     semaphores: &mut [u32],
-) -> Difference {
-    let loaded = load_pools(input, words, table, semaphores);
-    let entries = loaded.entries;
-    single_step(input, given, lent, words, entries, table, semaphores)
+) -> Option<Difference> {
+    let mut memory = Memory {
+        words,
+        entries: [0; MOST_ENTRIES],
+        table,
+        semaphores,
+    };
+    memory.load(input);
+    let mut pair = Pair::new(given, memory.semaphores);
+    let header = Header::next(input);
+    let difference = step(input, &mut pair, header, lent, &mut memory);
+    let near = pair.memory_held(memory.semaphores);
+    let swept = swept(memory.semaphores, lent.semaphores);
+    header.of(Operation::Step).or(difference).or(near).or(swept)
 }
 
-fn single_step(
-    input: &mut Input<'_>,
-    given: [u32; CHANNEL_WORDS],
-    lent: Lent,
-    words: &[u32],
-    entries: [u64; MOST_ENTRIES],
-    table: &[u32],
-    semaphores: &mut [u32],
-) -> Difference {
-    let pair = paired(given, semaphores);
-    let header = next_word(input);
-    let done = step(input, pair, header, lent, words, entries, table, semaphores);
-    let pair = done.pair;
-    let difference = done.difference;
-    let memory = all_held(pair, semaphores, lent.semaphores);
-    first(of(header, STEP), first(difference, memory))
-}
-
-// Holds all semaphore words that were lent to the model's: past the first, those are 0.
-fn all_held(pair: Pair, semaphores: &mut [u32], lent: usize) -> Difference {
-    let near = memory_held(pair, semaphores);
-    first(near, swept(semaphores, lent))
-}
-
-fn swept(semaphores: &mut [u32], lent: usize) -> Difference {
-    let mut found = same();
-    let end = within(lent, semaphores.len());
-    for i in MOST_GIVEN..end {
-        let here = far(semaphores, i, 0);
-        found = first(found, here);
+// Holds the semaphore words that were lent, past the first, to the model's: those are 0.
+fn swept(semaphores: &mut [u32], lent: usize) -> Option<Difference> {
+    let mut found = None;
+    for (place, word) in semaphores
+        .iter_mut()
+        .enumerate()
+        .take(lent)
+        .skip(MOST_GIVEN)
+    {
+        let got = mem::take(word);
+        if got != 0 && found.is_none() {
+            found = Some(Difference::Word {
+                part: Part::Semaphore,
+                place,
+                wanted: 0,
+                got,
+            });
+        }
     }
     found
 }

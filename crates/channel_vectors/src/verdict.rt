@@ -1,49 +1,32 @@
 // What a record came to.
-use crate::difference::{Difference, NOTHING};
+use crate::difference::Difference;
+use crate::operation::Done;
 
 // How many steps a run had; and where library and model part first, with the operation of the run,
 // counted from 1, at which they do.
-#[derive(Clone, Copy)]
+#[derive(Clone, Copy, Default)]
 pub struct Verdict {
     pub steps: u32,
     pub operation: u32,
-    pub difference: Difference,
+    pub difference: Option<Difference>,
 }
 
-// The verdict on a record that is no run, and on a run before its first operation.
-pub(crate) fn alone(difference: Difference) -> Verdict {
-    Verdict {
-        steps: 0,
-        operation: 0,
-        difference,
-    }
-}
-
-// The verdict with one operation more.
-pub(crate) fn added(verdict: Verdict, steps: u32, difference: Difference) -> Verdict {
-    let before = verdict.difference;
-    let steps = sum(verdict.steps, steps);
-    if before.part == NOTHING {
-        return Verdict {
-            steps,
-            operation: sum(verdict.operation, 1),
+impl Verdict {
+    // The verdict on a record that is no run.
+    pub(crate) fn alone(difference: Option<Difference>) -> Verdict {
+        Verdict {
+            steps: 0,
+            operation: 0,
             difference,
-        };
+        }
     }
-    Verdict {
-        steps,
-        operation: verdict.operation,
-        difference: before,
-    }
-}
 
-// The sum; where it would be more than any file has, the first alone.
-pub(crate) fn sum(a: u32, b: u32) -> u32 {
-    if 0x1000_0000 < a {
-        return a;
+    // One operation more, and what differs in the memory after it.
+    pub(crate) fn add(&mut self, done: Done, memory: Option<Difference>) {
+        self.steps = self.steps.saturating_add(u32::from(done.step));
+        if self.difference.is_none() {
+            self.operation = self.operation.saturating_add(1);
+            self.difference = done.difference.or(memory);
+        }
     }
-    if 0x1000_0000 < b {
-        return a;
-    }
-    a + b
 }

@@ -1,10 +1,11 @@
 -- The promises about kinds and events, each under its name in specs/Promises.antt. Assumes nothing.
-use Prim.Native.Nat.{ℕ, zero, suc, ◌<◌}
+use Prim.Native.Nat.{ℕ, ◌<◌}
 use mathlib.Core.Path.{◌≡◌, refl, sym, ap, ap₂, ◌∙◌}
-use mathlib.Core.List.{List, [], ◌∷◌}
-use mathlib.Core.Option.{Option, none, some, none-ne-some}
+use mathlib.Core.List.{List}
+use mathlib.Core.Option.{Option, none, some}
 use native.Mathlib.Omega.{arith}
 use lib.ListN.{length, get_or}
+use Rattle.std.proofs.lemmas.List.{get_or_past}
 use Rattle.event.specs.Event.{number, values}
 use Rattle.event.specs.Promises.{One, StandsIn, kind_list, Kinds, Told}
 use Rattle.event.specs.declared.Kind.TheVariants as kind
@@ -39,25 +40,18 @@ at i e = ap (λ (l : List ℕ). get_or l i 0) e
 
 -- what stands in a list by its number is told by it,
 pub numbered_told : {A : Type 0} (list : List (Option A)) (number_of : A → ℕ) → StandsIn list number_of → (x y : A) → number_of x ≡ number_of y → x ≡ y
-numbered_told list number_of stands x y e =
-    let same : some x ≡ some y = sym (stands x) ∙ rw e (stands y) in
-    cc
+numbered_told list number_of stands x y e = cc (stands x, stands y)
 
 -- and the number counts a place within the list
 pub within : {A : Type 0} (list : List (Option A)) (n : ℕ) (x : A) → get_or list n none ≡ some x → n < length list
-within [] n x e = absurd (none-ne-some x e)
-within (y ∷ list) zero x e = omega arith
-within (y ∷ list) (suc n) x e = let more = within list n x e in omega arith
+within list n x e = grind (arith, get_or_past list n none)
 
 same_method : (m n : Method) → m.subchannel ≡ n.subchannel → m.method ≡ n.method → m.parameter ≡ n.parameter → m ≡ n
-same_method m n a b c =
-    ap (λ (x : ℕ). record { subchannel = x; method = m.method; parameter = m.parameter }) a
-    ∙ ap (λ (x : ℕ). record { subchannel = n.subchannel; method = x; parameter = m.parameter }) b
-    ∙ ap (λ (x : ℕ). record { subchannel = n.subchannel; method = n.method; parameter = x }) c
+same_method m n a b c = rw (sym a, sym b, sym c)
 
 pub told : Told
 unfolding values
 told (Plain j) (Plain k) e = ap Plain (numbered_told kind_list number kinds j k (at 0 e))
-told (Plain j) (Of k n) e = let z : ◌≡◌ {A = ℕ} 1 4 = ap length e in absurd (omega arith)
-told (Of j m) (Plain k) e = let z : ◌≡◌ {A = ℕ} 4 1 = ap length e in absurd (omega arith)
+told (Plain j) (Of k n) e = cc
+told (Of j m) (Plain k) e = cc
 told (Of j m) (Of k n) e = ap₂ Of (numbered_told kind_list number kinds j k (at 0 e)) (same_method m n (at 1 e) (at 2 e) (at 3 e))

@@ -5,24 +5,24 @@
 ghost use Rattle.event.specs.Outcomes.{Numbers};
 
 // The kinds, in the order of their numbers.
-#[derive(Clone, Copy)]
+#[derive(Clone, Copy, Debug, PartialEq, Eq)]
 pub enum Kind {
-    Command,
-    Count,
-    Bind,
-    Ref,
-    Event,
-    Dma,
-    Offset,
-    Acquire,
-    Release,
-    Wait,
-    Forward,
-    Error,
-    Entry,
-    Discard,
-    Idle,
-    Stopped,
+    Command = 1,
+    Count = 2,
+    Bind = 3,
+    Ref = 4,
+    Event = 5,
+    Dma = 6,
+    Offset = 7,
+    Acquire = 8,
+    Release = 9,
+    Wait = 10,
+    Forward = 11,
+    Error = 12,
+    Entry = 13,
+    Discard = 14,
+    Idle = 15,
+    Stopped = 16,
 }
 
 impl Kind {
@@ -31,29 +31,12 @@ impl Kind {
     pub fn number(self) -> u32
         ensures { Numbers self result }
     {
-        match self {
-            Kind::Command => 1,
-            Kind::Count => 2,
-            Kind::Bind => 3,
-            Kind::Ref => 4,
-            Kind::Event => 5,
-            Kind::Dma => 6,
-            Kind::Offset => 7,
-            Kind::Acquire => 8,
-            Kind::Release => 9,
-            Kind::Wait => 10,
-            Kind::Forward => 11,
-            Kind::Error => 12,
-            Kind::Entry => 13,
-            Kind::Discard => 14,
-            Kind::Idle => 15,
-            Kind::Stopped => 16,
-        }
+        self as u32
     }
 }
 
 // A method as the pusher submits it and the puller takes it; `method` is its byte number.
-#[derive(Clone, Copy)]
+#[derive(Clone, Copy, Debug, PartialEq, Eq)]
 pub struct Method {
     pub subchannel: u32,
     pub method: u32,
@@ -61,7 +44,7 @@ pub struct Method {
 }
 
 // A kind, and for methods taken or discarded the method.
-#[derive(Clone, Copy)]
+#[derive(Clone, Copy, Debug, PartialEq, Eq)]
 pub enum Event {
     Plain { kind: Kind },
     Of { kind: Kind, method: Method },

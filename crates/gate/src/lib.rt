@@ -9,8 +9,8 @@ mod parameters;
 mod permit;
 mod reason;
 
-pub use judging::{first_refused, judge, no_such_lengths};
-pub use map::marked_among;
+pub use judging::{first_refused, judge, no_such_lengths, submit};
+pub use map::{Map, Marks, NoMap, marked_among};
 pub use next::nexts;
-pub use reason::{arrival, own_reason};
-pub use rules::{Finding, FirstRefused, Judgement, Nexts, Pair, Reason, Verdict};
+pub use reason::{arrival, command_reason, own_reason};
+pub use rules::{FirstRefused, Judgement, Nexts, Pair, Reason, Submission, Unfit, Verdict};

@@ -22,9 +22,73 @@ pub(crate) fn parameter_count(command: Reading) -> u32
     }
 }
 
+// The parameters of a command, taken apart.
+#[derive(Clone, Copy)]
+pub(crate) struct Parameters {
+    pub(crate) count: u32,
+    methods: Methods,
+}
+
+impl Parameters {
+    pub(crate) fn of(command: Reading) -> Parameters
+        ensures count { result.count ≡ parameter_count command }
+        ensures methods { result.methods ≡ methods_of command }
+    {
+        Parameters {
+            count: parameter_count(command),
+            methods: methods_of(command),
+        }
+    }
+
+    // Whether they go past 0x1ffc, to method 0, where there are any: only where the methods rise.
+    #[tactic(auto, unfolding(rules::specs::Parameters::wraps))]
+    pub(crate) fn wrap(&self) -> bool
+        ensures { result ≡ self.now.methods.increasing && ltb 2048 (self.now.methods.method + self.now.count) }
+    {
+        self.methods.increasing && 2048 < self.methods.method as u64 + self.count as u64
+    }
+
+    // Whether none goes to a method below 0x100: the first one's is above, and they don't wrap.
+    #[tactic(auto, using(rules::proofs::MethodLaws::above_special))]
+    fn none_special(&self) -> bool
+        ensures { result ≡ true → (level : ℕ) → any_fails (present_of level) self.now.methods self.now.count ≡ false }
+    {
+        0x40 <= self.methods.method && !self.wrap()
+    }
+
+    // Whether the level lacks the method of any. Most runs have none that is special.
+    #[tactic(auto, using(rules::proofs::MethodLaws::method_met, rules::proofs::MethodLaws::method_onward, rules::proofs::MethodLaws::methods_fine, rules::proofs::Scans::outset))]
+    pub(crate) fn any_lacking(&self, setting: Setting) -> bool
+        ensures { result ≡ any_fails (present_of setting.level.number) self.now.methods self.now.count }
+    {
+        if self.none_special() {
+            return false;
+        }
+        for k in 0..self.count {
+            if !present(setting.level, method_for(self.methods, k)) {
+                return true;
+            }
+        }
+        false
+    }
+
+    // Whether the list does not permit the method of any.
+    #[tactic(auto, using(rules::proofs::MethodLaws::method_met, rules::proofs::MethodLaws::method_onward, rules::proofs::MethodLaws::methods_fine, rules::proofs::Scans::outset))]
+    pub(crate) fn any_denied(&self, permit: &[u8]) -> bool
+        ensures { result ≡ any_fails (permits permit.now self.now.methods.subchannel) self.now.methods self.now.count }
+    {
+        for k in 0..self.count {
+            if !permitted(permit, self.methods.subchannel, method_for(self.methods, k)) {
+                return true;
+            }
+        }
+        false
+    }
+}
+
 // The methods that they go to.
 #[tactic(auto, unfolding(rules::specs::Parameters::methods_of))]
-pub(crate) fn methods_of(command: Reading) -> Methods
+fn methods_of(command: Reading) -> Methods
     ensures { result ≡ methods_of command }
 {
     match command {
@@ -64,6 +128,7 @@ pub(crate) fn methods_of(command: Reading) -> Methods
 }
 
 // The number of the method that parameter k, from 0, goes to.
+#[tactic(auto, unfolding(rules::specs::Parameters::method_for, word::specs::First::choose))]
 fn method_for(methods: Methods, k: u32) -> u32
     ensures { result ≡ method_for methods k }
 {
@@ -71,52 +136,4 @@ fn method_for(methods: Methods, k: u32) -> u32
         return ((methods.method as u64 + k as u64) % 2048) as u32;
     }
     methods.method
-}
-
-// Whether a run of so many parameters, and of at least one, goes past 0x1ffc, to method 0: only one whose
-// methods rise does.
-pub(crate) fn wraps(methods: Methods, count: u32) -> bool
-    ensures { result ≡ methods.increasing && ltb 2048 (methods.method + count) }
-{
-    if methods.increasing {
-        return 2048 < methods.method as u64 + count as u64;
-    }
-    false
-}
-
-// Whether no parameter goes to a method below 0x100: the first one's is above, and they don't wrap.
-fn none_special(methods: Methods, count: u32) -> bool
-    ensures { result ≡ true → (level : ℕ) → any_fails (present_of level) methods count ≡ false }
-{
-    if methods.method < 0x40 {
-        return false;
-    }
-    !wraps(methods, count)
-}
-
-// Whether the level lacks the method of any parameter. Most runs have none that is special.
-pub(crate) fn any_lacking(setting: Setting, methods: Methods, count: u32) -> bool
-    ensures { result ≡ any_fails (present_of setting.level.number) methods count }
-{
-    if none_special(methods, count) {
-        return false;
-    }
-    for k in 0..count {
-        if !present(setting.level, method_for(methods, k)) {
-            return true;
-        }
-    }
-    false
-}
-
-// Whether the list does not permit the method of any parameter.
-pub(crate) fn any_denied(permit: &[u8], methods: Methods, count: u32) -> bool
-    ensures { result ≡ any_fails (permits permit.now methods.subchannel) methods count }
-{
-    for k in 0..count {
-        if !permitted(permit, methods.subchannel, method_for(methods, k)) {
-            return true;
-        }
-    }
-    false
 }

@@ -18,13 +18,14 @@ pub(crate) fn permitted(permit: &[u8], subchannel: u32, method: u32) -> bool
 }
 
 // How many bits of the list are set.
+#[tactic(auto, using(rules::proofs::Scans::set_bits_more), unfolding(rules::specs::Permit::count_of))]
 pub(crate) fn set_bits(permit: &[u8]) -> u32
     requires { length permit.now ≡ 2048 }
     ensures { result ≡ count_of permit.now }
 {
     let mut count = 0;
-    for i in 0..LIST_BYTES {
-        count = count + u8::count_ones(permit[i]);
+    for byte in permit {
+        count += byte.count_ones();
     }
     count
 }

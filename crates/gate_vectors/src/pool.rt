@@ -1,52 +1,37 @@
-// The pools whose first bytes a record lends.
-ghost use Rattle.std.specs.Prelude.{◌≤◌};
+// The pools whose first bytes and entries a record lends.
+use records::{Unknown, Words};
 
-use crate::input::{Input, next_byte, next_word};
+// The most bytes that a large record lends: more than the library takes, so that SIZE is tried.
+pub const LARGE_WORDS: usize = 4_194_312;
 
-// What is lent of a pool of so many bytes.
-pub(crate) fn within(lent: usize, len: usize) -> usize
-    ensures { result ≤ len }
-{
-    if lent < len { lent } else { len }
+pub const LARGE_MAP: usize = 1_048_580;
+
+// The most bytes that a record lends as its list of permitted methods.
+pub const MOST_PERMIT: usize = 4096;
+
+// The most entries that a record lends as the list's room, and as the work room.
+pub const MOST_LIST: usize = 8200;
+
+pub const MOST_WORK: usize = 16_400;
+
+#[derive(Drop)]
+pub(crate) struct Pools<'a> {
+    pub(crate) words: &'a mut [u8],
+    pub(crate) map: &'a mut [u8],
+    pub(crate) permit: &'a mut [u8],
+    pub(crate) list: &'a mut [u64],
+    pub(crate) work: &'a mut [u64],
 }
 
-fn put(pool: &mut [u8], i: usize, byte: u8) {
-    if i < pool.len() {
-        pool[i] = byte;
-    }
-}
-
-pub(crate) fn fill(pool: &mut [u8], count: u32, byte: u8) {
-    for i in 0..count {
-        put(pool, i as usize, byte);
-    }
-}
-
-pub(crate) fn fill_entries(pool: &mut [u64], count: u32, entry: u64) {
-    for i in 0..count {
-        put_entry(pool, i as usize, entry);
-    }
-}
-
-fn put_entry(pool: &mut [u64], i: usize, entry: u64) {
-    if i < pool.len() {
-        pool[i] = entry;
-    }
-}
-
-// Reads bytes that a record gives with their places.
-pub(crate) fn load_listed(input: &mut Input<'_>, pool: &mut [u8], count: u32) {
-    for _ in 0..count {
-        let place = next_word(input) as usize;
-        put(pool, place, next_byte(input));
-    }
+// The first of a pool; the format has no record that lends more than there are.
+pub(crate) fn lend<T>(pool: &mut [T], count: usize) -> Result<&mut [T], Unknown> {
+    pool.get_mut(..count).ok_or(Unknown)
 }
 
 // Reads bytes that a record gives as words. What makes the last word whole is read too, and not lent.
-pub(crate) fn load(input: &mut Input<'_>, pool: &mut [u8], count: u32) {
-    let whole = (count as usize + 3) / 4 * 4;
-    let end = within(whole, pool.len());
-    let given = end.min(input.rest.len());
-    pool[..given].copy_from_slice(&input.rest[..given]);
-    input.rest = &input.rest[given..];
+pub(crate) fn load(input: &mut Words<'_>, pool: &mut [u8], count: usize) {
+    let whole = count.div_ceil(4).saturating_mul(4);
+    for (byte, given) in pool.iter_mut().zip(input.next_bytes(whole)) {
+        *byte = *given;
+    }
 }

@@ -17,7 +17,8 @@ use Rattle.word.specs.Outcomes.{Reads}
 use Rattle.word.specs.Promises.{setting_plain, size_plain, size}
 use Rattle.word.specs.declared.setting.Refusal.{Refusal}
 use Rattle.word.specs.declared.setting.Setting.{Setting}
-use Rattle.word.specs.declared.setting.Check.TheVariants.{Fine}
+use Rattle.std.specs.declared.result.Result.{Result}
+use Rattle.std.specs.declared.result.Result.TheVariants.{Ok}
 use Rattle.word.specs.declared.reading.Reading.{Reading}
 use Rattle.word.specs.declared.reading.Reading.TheVariants as reads
 use Rattle.word.proofs.Told.{no_why_of, why_back}
@@ -29,8 +30,8 @@ use Rattle.listing.specs.Listing.{span, ends_at, item_of, list_of}
 use Rattle.listing.specs.Answers.{number, values, item_why, item_refusal}
 use Rattle.listing.specs.Outcomes.{ListsAt, moved_to}
 use Rattle.listing.specs.Promises.{Refused, One, New, IsCommand, Stays, Items, Next, Made, nothing, more, InTurn, over, on, GivesBack}
-use Rattle.listing.specs.declared.command.Item.{Item}
-use Rattle.listing.specs.declared.command.Item.TheVariants as item
+use Rattle.listing.specs.declared.command.End.{End}
+use Rattle.listing.specs.declared.command.End.TheVariants as end
 use Rattle.listing.specs.declared.command.Listed.{Listed}
 use Rattle.listing.specs.declared.listing.Listing.{Listing}
 use Rattle.listing.proofs.Items.{refusals, word, here}
@@ -53,19 +54,19 @@ module _ (s : Setting) (ws : List ℕ) (p : ℕ) where
   refused_at : (a : Listed) → ListsAt s ws p a → (n : ℕ) → item_refusal a.item ≡ some n ↔ FirstIs (setting_plain s ++ size_plain ws) n
   unfolding list_of item_refusal
   refused_at a c n =
-      told_plain (λ x. ends_at p (item.Refused x)) (λ (x : Listed). item_refusal x.item) (λ x. refl)
+      told_plain (λ x. ends_at p (end.Refused x)) (λ (x : Listed). item_refusal x.item) (λ x. refl)
       (setting_cases s ++ size_cases (length ws)) (setting_plain s ++ size_plain ws) _ a
       (setting_agree s (size_cases (length ws)) (size_plain ws) (size_agree ws)) plain c n
 
   -- an item that is no refusal passed the refusals
   passed : (a : Listed) → ListsAt s ws p a → item_refusal a.item ≡ none → refusals s ws p ≡ none
   unfolding list_of item_refusal
-  passed a c e = sym (told_first (λ x. ends_at p (item.Refused x)) (λ (x : Listed). item_refusal x.item) (λ x. refl) (setting_cases s ++ size_cases (length ws)) _ a plain c) ∙ e
+  passed a c e = sym (told_first (λ x. ends_at p (end.Refused x)) (λ (x : Listed). item_refusal x.item) (λ x. refl) (setting_cases s ++ size_cases (length ws)) _ a plain c) ∙ e
 
   -- so that it is what is listed there
   accepts : (a : Listed) → ListsAt s ws p a → item_refusal a.item ≡ none → a ≡ here s ws p
   unfolding list_of
-  accepts a c e = c ∙ accepted (λ x. ends_at p (item.Refused x)) _ (passed a c e)
+  accepts a c e = c ∙ accepted (λ x. ends_at p (end.Refused x)) _ (passed a c e)
 
   -- what is no command leaves the place as it was
   stays_at : 2 ≤ number (list_of s ws p).item → (list_of s ws p).place ≡ p
@@ -75,7 +76,7 @@ module _ (s : Setting) (ws : List ℕ) (p : ℕ) where
       Still : Listed → Type 0
       Still x = 2 ≤ number x.item → x.place ≡ p
 
-      by_cases : (o : Option ℕ) → Still (refused_or (λ x. ends_at p (item.Refused x)) o (here s ws p))
+      by_cases : (o : Option ℕ) → Still (refused_or (λ x. ends_at p (end.Refused x)) o (here s ws p))
       by_cases none = by_test Still (λ t h. refl) (λ t. by_test Still (λ t h. refl) (λ t. by_test Still (λ t h. refl) (λ t h. absurd (omega arith))))
       by_cases (some n) = λ h. refl
 
@@ -85,7 +86,7 @@ refused =
       list_at = refused_at;
       next = λ s l a exit g n.
           let ws = l.words.now in
-          subst (λ (x : Item). item_refusal x ≡ some n ↔ FirstIs (setting_plain s ++ size_plain ws) n) (sym g.item) (refused_at s ws l.place _ refl n);
+          subst (λ (x : Result Reading End). item_refusal x ≡ some n ↔ FirstIs (setting_plain s ++ size_plain ws) n) (sym g.item) (refused_at s ws l.place _ refl n);
     }
 
 pub one : One
@@ -100,7 +101,7 @@ pub new : New
 new words l b = (ap (λ (x : Listing). x.words) b, ap (λ (x : Listing). x.place) b)
 
 pub stays : Stays
-stays s l a exit g h = g.reader ∙ ap (moved_to l) (stays_at s l.words.now l.place (subst (λ (x : Item). 2 ≤ number x) g.item h))
+stays s l a exit g h = g.reader ∙ ap (moved_to l) (stays_at s l.words.now l.place (subst (λ (x : Result Reading End). 2 ≤ number x) g.item h))
 
 -- a word is not past the last
 not_past : (r : Reading) (n p : ℕ) → number (item_of r n p).item ≡ 2 → ⊥
@@ -162,7 +163,7 @@ module _ (s : Setting) (ws : List ℕ) (p : ℕ) (a : Listed) (c : ListsAt s ws 
       commands l =
           let all = span_is r in
           let whole : p + span r ≤ length ws = omega arith in
-          let there : a ≡ record { item = item.Command r; place = p + span r } = at_word ∙ choose_false (ne_eqb _ _ other) _ _ ∙ choose_false (le-ltb _ _ whole) _ _ in
+          let there : a ≡ record { item = Ok r; place = p + span r } = at_word ∙ choose_false (ne_eqb _ _ other) _ _ ∙ choose_false (le-ltb _ _ whole) _ _ in
           let after : p + span r ≡ p + size r + parameter_count r = omega arith in
           ((ap (λ (x : Listed). number x.item) there, ap (λ (x : Listed). values x.item) there), ap (λ (x : Listed). x.place) there ∙ after)
 
@@ -196,12 +197,12 @@ a_word r = by_test (λ (n : ℕ). 1 ≤ n) (λ t. omega arith) (λ t. omega arit
 within : (front own after : List ℕ) (i : ℕ) → i < length own → get_or (front ++ (own ++ after)) (length front + i) 0 ≡ get_or own i 0
 within front own after i h = get_or-append-add front (own ++ after) i 0 ∙ get_or-append own after 0 i h
 
-module _ (s : Setting) (fine : check_of s ≡ Fine) (ws : List ℕ) (few : length ws ≤ 1048576) where
+module _ (s : Setting) (fine : check_of s ≡ Ok tt) (ws : List ℕ) (few : length ws ≤ 1048576) where
   -- nothing is refused, at no place
   unrefused : (p : ℕ) → item_refusal (list_of s ws p).item ≡ none
   unfolding list_of
   unrefused p =
-      let refuse : Refusal → Listed = λ x. ends_at p (item.Refused x) in
+      let refuse : Refusal → Listed = λ x. ends_at p (end.Refused x) in
       ap (λ (x : Listed). item_refusal x.item) (passed_by s (size_cases (length ws)) refuse _ fine ∙ miss SIZE [] refuse _ (le-ltb _ _ few) ∙ no_more refuse _)
       ∙ plain s ws p
 

@@ -1,5 +1,5 @@
 -- The promises about the listing, each a statement that is proved under its own name in proofs/.
-use Rattle.std.specs.Prelude.{ℕ, ◌+◌, ◌≤◌, ◌<◌, ◌≡◌, List, [], ◌∷◌, ◌++◌, ◌↔◌, length, get_or}
+use Rattle.std.specs.Prelude.{ℕ, ◌+◌, ◌≤◌, ◌<◌, ◌≡◌, List, [], ◌∷◌, ◌++◌, ◌↔◌, length, get_or, Result}
 use Rattle.std.proofs.Math.Option.{none, some}
 use Rattle.std.specs.Borrow.{Bor}
 use Rattle.word.specs.First.{FirstIs, SomeHolds}
@@ -10,10 +10,10 @@ use Rattle.word.specs.Reading.{parameter_count}
 use Rattle.word.specs.Reading as reading
 use Rattle.word.specs.declared.setting.Setting.{Setting}
 use Rattle.word.specs.declared.reading.Reading.{Reading}
-use Rattle.word.specs.declared.writing.Written.{Written}
+use Rattle.word.specs.declared.writing.Unwritten.{Unwritten}
 use Rattle.listing.specs.Answers.{number, values, item_why, item_refusal}
 use Rattle.listing.specs.Outcomes.{ListsAt, Begins, Gives}
-use Rattle.listing.specs.declared.command.Item.{Item}
+use Rattle.listing.specs.declared.command.End.{End}
 use Rattle.listing.specs.declared.command.Listed.{Listed}
 use Rattle.listing.specs.declared.listing.Listing.{Listing}
 
@@ -25,7 +25,7 @@ pub record Refused : Type 0 where
       → (n : ℕ)
       → item_refusal a.item ≡ some n ↔ FirstIs (setting_plain s ++ size_plain ws) n
   pub next :
-      (s : Setting) (l : Listing) (a : Item) (exit : Listing)
+      (s : Setting) (l : Listing) (a : Result Reading End) (exit : Listing)
       → Gives s l a exit
       → (n : ℕ)
       → item_refusal a ≡ some n ↔ FirstIs (setting_plain s ++ size_plain l.words.now) n
@@ -35,7 +35,7 @@ pub record One : Type 0 where
   pub list_at : (s : Setting) (ws : List ℕ) (p : ℕ) (a b : Listed) → ListsAt s ws p a → ListsAt s ws p b → a ≡ b
   pub new : (words : Bor (List ℕ)) (a b : Listing) → Begins words a → Begins words b → a ≡ b
   pub next :
-      (s : Setting) (l : Listing) (a b : Item) (x y : Listing)
+      (s : Setting) (l : Listing) (a b : Result Reading End) (x y : Listing)
       → Gives s l a x
       → Gives s l b y
       → (a ≡ b) × (x ≡ y)
@@ -46,10 +46,10 @@ New = (words : Bor (List ℕ)) (l : Listing) → Begins words l → (l.words ≡
 
 -- K4, R31: what is no command (number 1) leaves the reader as it was, a refusal too, so that `next` gives the same again.
 abbrev pub Stays : Type 0
-Stays = (s : Setting) (l : Listing) (a : Item) (exit : Listing) → Gives s l a exit → 2 ≤ number a → exit ≡ l
+Stays = (s : Setting) (l : Listing) (a : Result Reading End) (exit : Listing) → Gives s l a exit → 2 ≤ number a → exit ≡ l
 
 -- an item is a command: number 1, with the command's number and values
-abbrev pub IsCommand : Reading → Item → Type 0
+abbrev pub IsCommand : Reading → Result Reading End → Type 0
 IsCommand r a = (number a ≡ 1) × (values a ≡ reading.number r ∷ reading.values r)
 
 -- K2, K3, W15: which item, where nothing is refused, by the reading of the word at the place with the word after it, or 0 after the
@@ -94,7 +94,7 @@ pub record Items : Type 0 where
 -- K2: `next` gives what `list_at` gives of the words that the reader holds, at its place, and the reader goes on after it.
 abbrev pub Next : Type 0
 Next =
-    (s : Setting) (l : Listing) (a : Item) (exit : Listing) (x : Listed)
+    (s : Setting) (l : Listing) (a : Result Reading End) (exit : Listing) (x : Listed)
     → Gives s l a exit
     → ListsAt s l.words.now l.place x
     → (number a ≡ number x.item) × (values a ≡ values x.item) × (item_why a ≡ item_why x.item) × (exit.words ≡ l.words) × (exit.place ≡ x.place)
@@ -106,7 +106,7 @@ Next =
 pub data Made (s : Setting) : List Reading → List ℕ → Type 0 where
   nothing : Made s [] []
   more :
-      (r : Reading) (out own ps : List ℕ) (a : Written) (rs : List Reading) (ws : List ℕ)
+      (r : Reading) (out own ps : List ℕ) (a : Result ℕ Unwritten) (rs : List Reading) (ws : List ℕ)
       → Writes s r out a own
       → written_refusal a ≡ none
       → length out ≡ size r

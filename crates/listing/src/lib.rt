@@ -4,5 +4,5 @@
 mod command;
 mod listing;
 
-pub use command::{Item, Listed, list_at};
+pub use command::{End, Listed, list_at};
 pub use listing::Listing;

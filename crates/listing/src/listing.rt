@@ -1,8 +1,8 @@
 // The listing reader, thin over `list_at`: lent words, and how far they are listed.
 ghost use Rattle.listing.specs.Outcomes.{Begins, Gives};
 
-use crate::command::{Item, list_at};
-use word::Setting;
+use crate::command::{End, list_at};
+use word::{Reading, Setting};
 
 #[derive(Clone, Copy)]
 pub struct Listing<'a> {
@@ -19,7 +19,7 @@ impl<'a> Listing<'a> {
     }
 
     // The next item. At an end it is the same again, and the place stays.
-    pub fn next<'s>(&'s mut self, setting: Setting) -> Item
+    pub fn next<'s>(&'s mut self, setting: Setting) -> Result<Reading, End>
         ensures { Gives setting self.old result self.new }
     {
         let listed = list_at(setting, self.words, self.place);

@@ -1,12 +1,12 @@
 // Answers: the model's, and the library's.
-use crate::input::next_word;
 use crate::reader::through_reader;
-use listing::{Item, Listed};
-use std::io::{self, Read};
-use word::{Reading, Refusal, Setting, Why};
+use listing::{End, Listed};
+use records::Words;
+use std::fmt;
+use word::{Reading, Setting, Why};
 
 // An item's number, a reading's with its values, a why, and the place after it. What an answer lacks is 0.
-#[derive(Clone, Copy)]
+#[derive(Clone, Copy, PartialEq, Eq, Default)]
 pub struct Answer {
     pub item: u32,
     pub reading: u32,
@@ -17,50 +17,68 @@ pub struct Answer {
     pub place: usize,
 }
 
-pub(crate) fn nothing() -> Answer {
-    without(0, 0, 0)
+impl Answer {
+    // The model's.
+    pub(crate) fn next(input: &mut Words<'_>) -> Answer {
+        Answer {
+            item: input.next_word(),
+            reading: input.next_word(),
+            a: input.next_word(),
+            b: input.next_word(),
+            c: input.next_word(),
+            why: input.next_word(),
+            place: input.next_word() as usize,
+        }
+    }
 }
 
-// The model's.
-pub(crate) fn next_answer(input: &mut impl Read) -> io::Result<Answer> {
-    Ok(Answer {
-        item: next_word(input)?,
-        reading: next_word(input)?,
-        a: next_word(input)?,
-        b: next_word(input)?,
-        c: next_word(input)?,
-        why: next_word(input)?,
-        place: next_word(input)? as usize,
-    })
+impl fmt::Display for Answer {
+    fn fmt<W: fmt::Write>(&self, f: &mut fmt::Formatter<W>) -> fmt::Result {
+        writeln!(f, "    item {}", self.item)?;
+        writeln!(f, "    reading {}", self.reading)?;
+        writeln!(f, "    value {}", self.a)?;
+        writeln!(f, "    value {}", self.b)?;
+        writeln!(f, "    value {}", self.c)?;
+        writeln!(f, "    why {}", self.why)?;
+        writeln!(f, "    place {}", self.place)
+    }
 }
 
-pub(crate) fn same(a: Answer, b: Answer) -> bool {
-    same_item(a, b) && a.why == b.why && a.place == b.place
+// A wrong answer: which of its record's it is, counted from 1, what was wanted and what was got.
+#[derive(Clone, Copy)]
+pub struct Miss {
+    pub answer: u32,
+    pub wanted: Answer,
+    pub got: Answer,
 }
 
-fn same_item(a: Answer, b: Answer) -> bool {
-    a.item == b.item && a.reading == b.reading && a.a == b.a && a.b == b.b && a.c == b.c
+impl fmt::Display for Miss {
+    fn fmt<W: fmt::Write>(&self, f: &mut fmt::Formatter<W>) -> fmt::Result {
+        let wanted = self.wanted;
+        let got = self.got;
+        writeln!(f, "  answer {}", self.answer)?;
+        write!(f, "  wanted\n{wanted}  got\n{got}")
+    }
 }
 
 // The library's. Two functions are asked: the answer is that of `list_at` if that is wrong, or else the
 // reader's.
 pub(crate) fn answered(setting: Setting, words: &[u32], place: usize, wanted: Answer) -> Answer {
     let listed = told(listing::list_at(setting, words, place));
-    if same(wanted, listed) {
+    if listed == wanted {
         return told(through_reader(setting, words, place));
     }
     listed
 }
 
 fn told(listed: Listed) -> Answer {
-    let item = listed.item;
     let place = listed.place;
-    match item {
-        Item::Command { reading } => told_reading(reading, place),
-        Item::Past => without(2, 0, place),
-        Item::Reserved { why } => reserved(why, place),
-        Item::Short => without(4, 0, place),
-        Item::Refused { refusal } => without(5, wide(refusal), place),
+    match listed.item {
+        Ok(reading) => told_reading(reading, place),
+        Err(End::Past) => without(2, 0, place),
+        Err(End::Reserved { why }) => reserved(why, place),
+        Err(End::Short) => without(4, 0, place),
+        Err(End::Refused { refusal }) => without(5, u32::from(refusal.number), place),
     }
 }
 
@@ -68,12 +86,9 @@ fn told(listed: Listed) -> Answer {
 fn without(item: u32, a: u32, place: usize) -> Answer {
     Answer {
         item,
-        reading: 0,
         a,
-        b: 0,
-        c: 0,
-        why: 0,
         place,
+        ..Answer::default()
     }
 }
 
@@ -81,12 +96,9 @@ fn without(item: u32, a: u32, place: usize) -> Answer {
 fn reserved(why: Why, place: usize) -> Answer {
     Answer {
         item: 3,
-        reading: 0,
-        a: 0,
-        b: 0,
-        c: 0,
-        why: why.number() as u32,
+        why: u32::from(why.number()),
         place,
+        ..Answer::default()
     }
 }
 
@@ -126,10 +138,6 @@ fn told_reading(reading: Reading, place: usize) -> Answer {
         Reading::Jump { target } => command(7, target, 0, 0, place),
         Reading::Call { target } => command(8, target, 0, 0, place),
         Reading::Reserved { .. } => command(9, 0, 0, 0, place),
-        Reading::Refused { refusal } => command(10, wide(refusal), 0, 0, place),
+        Reading::Refused { refusal } => command(10, u32::from(refusal.number), 0, 0, place),
     }
-}
-
-fn wide(refusal: Refusal) -> u32 {
-    refusal.number as u32
 }

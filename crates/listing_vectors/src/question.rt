@@ -1,72 +1,81 @@
 // The questions on standard input: their words go into the pool.
-use crate::input::next_word;
-use crate::pool::{fill, load};
-use std::io::{self, Read};
+use records::{Unknown, Words};
 use word::{Level, Mode, Setting};
 
 // The most words that a large record lends: more than the library takes, so that SIZE is tried.
 pub const LARGE_WORDS: usize = 1_048_580;
 
+#[derive(Clone, Copy)]
+pub enum Kind {
+    List,
+    Large,
+}
+
+impl TryFrom<u32> for Kind {
+    type Error = Unknown;
+
+    fn try_from(number: u32) -> Result<Kind, Unknown> {
+        match number {
+            1 => Ok(Kind::List),
+            2 => Ok(Kind::Large),
+            _ => Err(Unknown),
+        }
+    }
+}
+
 // The place is the first that is asked about.
 #[derive(Clone, Copy)]
 pub struct Question {
     pub setting: Setting,
-    pub place: u32,
-    pub words: u32,
+    pub place: usize,
+    pub words: usize,
 }
 
-pub(crate) fn next_question(input: &mut impl Read) -> io::Result<Question> {
-    Ok(Question {
-        setting: next_setting(input)?,
-        place: next_word(input)?,
-        words: next_word(input)?,
-    })
+impl Question {
+    pub(crate) fn next(input: &mut Words<'_>) -> Question {
+        Question {
+            setting: next_setting(input),
+            place: input.next_word() as usize,
+            words: input.next_word() as usize,
+        }
+    }
 }
 
-fn next_setting(input: &mut impl Read) -> io::Result<Setting> {
-    Ok(Setting {
+fn next_setting(input: &mut Words<'_>) -> Setting {
+    Setting {
         level: Level {
-            number: next_word(input)?,
+            number: input.next_word(),
         },
         mode: Mode {
-            number: next_word(input)?,
+            number: input.next_word(),
         },
-        sli: next_word(input)? != 0,
-    })
+        sli: input.next_word() != 0,
+    }
 }
 
-// Reads the words of a record. Says how many answers come next, 0 if the format has no such record.
-pub(crate) fn loaded(
-    input: &mut impl Read,
-    kind: u32,
-    question: Question,
-    words: &mut [u32],
-) -> io::Result<u32> {
+// Reads the words that a record lends, and how many answers come next.
+pub(crate) fn load(input: &mut Words<'_>, kind: Kind, lent: &mut [u32]) -> Result<u32, Unknown> {
     match kind {
-        1 => list_loaded(input, question, words),
-        2 => large_loaded(input, question, words),
-        _ => Ok(0),
+        Kind::List => load_list(input, lent),
+        Kind::Large => {
+            lent.fill(input.next_word());
+            Ok(1)
+        }
     }
 }
 
 // At most 256 words are given, and at most 300 answers: those to an end, and that three times.
-fn list_loaded(input: &mut impl Read, question: Question, words: &mut [u32]) -> io::Result<u32> {
-    if 256 < question.words {
-        return Ok(0);
+fn load_list(input: &mut Words<'_>, lent: &mut [u32]) -> Result<u32, Unknown> {
+    if 256 < lent.len() {
+        return Err(Unknown);
     }
-    load(input, words, question.words)?;
-    let answers = next_word(input)?;
-    if answers < 3 || 300 < answers {
-        return Ok(0);
+    for word in lent {
+        *word = input.next_word();
     }
-    Ok(answers)
-}
-
-// One word is given for all of them.
-fn large_loaded(input: &mut impl Read, question: Question, words: &mut [u32]) -> io::Result<u32> {
-    if LARGE_WORDS < question.words as usize {
-        return Ok(0);
+    let answers = input.next_word();
+    if (3..=300).contains(&answers) {
+        Ok(answers)
+    } else {
+        Err(Unknown)
     }
-    fill(words, question.words, next_word(input)?);
-    Ok(1)
 }

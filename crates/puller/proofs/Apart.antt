@@ -1,5 +1,6 @@
 -- What neither the clock nor the long semaphore has a part in. Assumes nothing.
 use Rattle.std.proofs.Common.{◌≡◌, ℕ, ◌+◌, ◌<◌, ◌≤◌, Bool, true, false, ◌&&◌, leb, List, sym, refl, ap, ◌∙◌, arith, leb-true}
+use Rattle.std.specs.Prelude.{Option, Some, None}
 use mathlib.Core.Logic.{by_cases}
 use native.Mathlib.Decide.{ℕ_discrete}
 use Rattle.word.specs.First.{choose}
@@ -11,8 +12,6 @@ use Rattle.puller.specs.Record.{with_long}
 use Rattle.puller.specs.Taking.{Deed, binds, refers, logs, binds_semaphore, offsets, acquires, releases, forwards, looks_and_forwards, addresses_high, addresses_low, sequences, triggers, rows, deed_in, deed_of, looking_up, bind_to, bind_of, dma_to, dma_of, offset_of, unready_at, long_place, place_in, is_past, trial_of, tried, acquire_in, acquire_of, retry_of, forward_of, forward_object_of, Result, unwritten, release_of, long_release_of, trigger_of, act, take_of}
 use Rattle.puller.specs.Promises.{ButLong, ButClock, SameButLong, Apart}
 use Rattle.puller.specs.declared.object.Object.{Object}
-use Rattle.puller.specs.declared.object.Found.{Found}
-use Rattle.puller.specs.declared.object.Found.TheVariants as found
 use Rattle.puller.specs.declared.record.LongSemaphore.{LongSemaphore}
 use Rattle.puller.specs.declared.record.AcquireMode.{AcquireMode}
 use Rattle.puller.specs.declared.record.AcquireMode.TheVariants as mode
@@ -134,10 +133,10 @@ module _ (p : Puller) (s : LongSemaphore) where
   choice sems true f g = f
   choice sems false f g = g
 
-  looked_up : (sems : List ℕ) (f : Found) (g h : Object → Taken) → ((o : Object) → Twins sems (g o) (h o)) → Twins sems (looking_up p f g) (looking_up (with_long p s) f h)
+  looked_up : (sems : List ℕ) (f : Option Object) (g h : Object → Taken) → ((o : Object) → Twins sems (g o) (h o)) → Twins sems (looking_up p f g) (looking_up (with_long p s) f h)
   unfolding looking_up
-  looked_up sems (found.Object o) g h k = k o
-  looked_up sems found.Nothing g h k = twins sems _ refl
+  looked_up sems (Some o) g h k = k o
+  looked_up sems None g h k = twins sems _ refl
 
   tried_alike :
       (sems : List ℕ) (e : PullerError) (t : Trial) {a b x y : Taken}

@@ -7,6 +7,7 @@ use Rattle.puller.specs.Loan.{PullerLoan}
 use Rattle.puller.specs.Record.{number, with_engine}
 use Rattle.puller.specs.Taking.{failed_by, retry_of, Result}
 use Rattle.puller.specs.Promises.{StoppedBy, Failing}
+use Rattle.puller.specs.declared.record.PullerError.{PullerError}
 use Rattle.puller.specs.declared.record.PullerError.TheVariants as cause
 use Rattle.puller.specs.declared.record.Puller.{Puller}
 use Rattle.puller.specs.declared.taking.Taken.{Taken}
@@ -34,7 +35,7 @@ module _ (p : Puller) (run : number p.error ≡ 0) where
       → (number o.taken.puller.error ≡ 0 → ⊥)
       → (values o.taken.event ≡ kind_number kind.Error ∷ []) × (o.memory ≡ l.semaphores) × StoppedBy p m o.taken.puller
   unfolding values
-  quiet o (failed e) n = (refl, refl, inl (failed_by_lem p e))
+  quiet o (failed e) n = (refl, refl, inl (e, failed_by_lem p e))
   quiet {m} o (failed_bound z) n = (refl, refl, inr (rw z (failed_by_lem (with_engine p m.subchannel 0) cause.EmptySubchannel)))
   quiet o (done k x h) n = absurd (n (ap number (same_error h) ∙ run))
   quiet o released n = absurd (n run)
@@ -42,10 +43,10 @@ module _ (p : Puller) (run : number p.error ≡ 0) where
 
   -- a retry that has failed changes nothing but the error
   abbrev Only : Taken → Type 0
-  Only r = (number r.puller.error ≡ 0 → ⊥) → r ≡ failed_by p r.puller.error
+  Only r = (number r.puller.error ≡ 0 → ⊥) → (e : PullerError) × (r ≡ failed_by p e)
 
   retry_only : (level : ℕ) (sems : List ℕ) → Only (retry_of level p sems)
-  retry_only level sems = by_retry Only level p sems (λ n. refl) (λ n. absurd (n run)) (λ n. absurd (n run))
+  retry_only level sems = by_retry Only level p sems (λ n. (_, refl)) (λ n. absurd (n run)) (λ n. absurd (n run))
 
 pub failing : Failing
 failing =
@@ -54,5 +55,7 @@ failing =
           let q = quiet p run _ (goes level.number p m l) (rw h.answer at n) in
           (rw h.answer q.0, rw h.memory q.1);
       stays = λ level p m l exit r h run n. rw h.answer (quiet p run _ (goes level.number p m l) (rw h.answer at n)).2;
-      retry = λ level p sems r h run n. failed_fails (rw h (retry_only p run level.number sems (rw h at n)));
+      retry = λ level p sems r h run n.
+          let stopped = retry_only p run level.number sems (rw h at n) in
+          (stopped.0, failed_fails (rw h stopped.1));
     }

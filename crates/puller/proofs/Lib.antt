@@ -1,7 +1,6 @@
 pub mod Table
 pub mod Leaving
 pub mod Answers
-pub mod Engines
 pub mod Deeds
 pub mod Causes
 pub mod Sentences

@@ -9,23 +9,13 @@ use Rattle.word.proofs.First.{choose_true, choose_false}
 use Rattle.event.specs.declared.Kind.TheVariants as kind
 use Rattle.event.specs.declared.Method.{Method}
 use Rattle.puller.specs.Record.{with_acquire, with_address}
-use Rattle.puller.specs.Taking.{done_with, failed_by, place_in, past_end_error, long_place, ahead, acquire_in, address_of, high_of, low_of, Result, unwritten, long_words, long_release_of, trigger_of}
-use Rattle.puller.specs.Outcomes.{Writes}
+use Rattle.puller.specs.Taking.{done_with, failed_by, place_in, past_end_error, long_place, acquire_in, address_of, high_of, low_of, Result, unwritten, long_words, long_release_of, trigger_of}
 use Rattle.puller.specs.Promises.{LongInside, long_word_in, Passes, AsksFor, FourWritten}
 use Rattle.puller.specs.declared.record.AcquireMode.{AcquireMode}
 use Rattle.puller.specs.declared.record.AcquireMode.TheVariants as mode
 use Rattle.puller.specs.declared.record.PullerError.TheVariants as cause
 use Rattle.puller.specs.declared.record.Puller.{Puller}
-use Rattle.puller.specs.declared.taking.Taken.{Taken}
 use Rattle.puller.proofs.Sentences.{tried_past, tried_passes, tried_waits}
-
--- what is left, by an equation
-pub writes_by : {o x : Result} {r : Taken} {exit : List ℕ} → o ≡ x → r ≡ x.taken → exit ≡ x.memory → Writes o r exit
-writes_by e a b = record { answer = rw e a; memory = rw e b }
-
--- the two lowest bits
-pub low_bits : (w : ℕ) → w % 4 ≡ bits 1 0 w
-low_bits w = omega arith
 
 module _ (p : Puller) (m : Method) where
   -- 0x10
@@ -186,24 +176,6 @@ module _ (l : List ℕ) (i a b c d : ℕ) where
           by_cases (ℕ_discrete j (i + 1)) (λ e. agree e v.second_is w.second_is)
           (λ n1.
           by_cases (ℕ_discrete j (i + 2)) (λ e. agree e v.third_is w.third_is) (λ n2. agree (omega arith) v.fourth_is w.fourth_is)))))
-
--- what a wrapping difference is
-pub wrapped : (difference word value : ℕ) → difference < 2 ^ 32 → (difference + value) % 2 ^ 32 ≡ word → difference ≡ ahead word value
-wrapped difference word value h e = omega arith
-
--- the clock's halves, of 64 bits
-pub clock_stored :
-    (l : List ℕ) (i a clock : ℕ)
-    → clock < 2 ^ 64
-    → set (set (set (set l i a) (i + 1) 0) (i + 2) (clock % 0x100000000)) (i + 3) (clock / 0x100000000) ≡ sets l i (a ∷ 0 ∷ bits 31 0 clock ∷ bits 63 32 clock ∷ [])
-clock_stored l i a clock h = go (clock % 0x100000000) (clock / 0x100000000) (omega arith) (omega arith)
-  where
-    go :
-        (low high : ℕ)
-        → low ≡ bits 31 0 clock
-        → high ≡ bits 63 32 clock
-        → set (set (set (set l i a) (i + 1) 0) (i + 2) low) (i + 3) high ≡ sets l i (a ∷ 0 ∷ bits 31 0 clock ∷ bits 63 32 clock ∷ [])
-    go low high e f = rw (← e, ← f) (four_stores l i a 0 low high)
 
 -- a long release
 module _ (p : Puller) (m : Method) (clock : ℕ) (sems : List ℕ) where

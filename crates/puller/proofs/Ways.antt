@@ -1,5 +1,6 @@
 -- The ways that a method can go, and the puller that each leaves: what holds of each holds of what is taken. Assumes nothing.
 use Rattle.std.proofs.Common.{◌≡◌, ℕ, ◌^◌, ◌<◌, Bool, true, List, set, refl, arith, ltb-false, eqb-true}
+use Rattle.std.specs.Prelude.{Option, Some, None}
 use lib.Seq.{sets}
 use Rattle.word.proofs.First.{by_test}
 use Rattle.event.specs.declared.Kind.{Kind}
@@ -11,8 +12,6 @@ use Rattle.puller.specs.Record.{engine_of, with_engine, with_last, with_referenc
 use Rattle.puller.specs.Taking.{Deed, binds, refers, logs, binds_semaphore, offsets, acquires, releases, forwards, looks_and_forwards, addresses_high, addresses_low, sequences, triggers, deed_of, done_with, saying, failed_by, looking_up, bind_to, bind_of, dma_to, dma_of, offset_of, place_of, long_place, past_end_error, tried, acquire_in, acquire_of, retry_of, forward_of, forward_object_of, Result, unwritten, release_of, high_of, low_of, long_words, long_release_of, trigger_of, act, take_of}
 use Rattle.puller.specs.Promises.{Names}
 use Rattle.puller.specs.declared.object.Object.{Object}
-use Rattle.puller.specs.declared.object.Found.{Found}
-use Rattle.puller.specs.declared.object.Found.TheVariants as found
 use Rattle.puller.specs.declared.record.PullerError.{PullerError}
 use Rattle.puller.specs.declared.record.PullerError.TheVariants as cause
 use Rattle.puller.specs.declared.record.AcquireMode.{AcquireMode}
@@ -64,10 +63,10 @@ module _ (level : ℕ) (p : Puller) (m : Method) (l : PullerLoan) where
   abbrev Unwritten : Taken → Type 0
   Unwritten t = Way p m l (unwritten l.semaphores t)
 
-  looked_up : (f : Found) (next : Object → Taken) → lookup_of l.table m.parameter ≡ f → ((o : Object) → Names l.table m.parameter o → Unwritten (next o)) → Unwritten (looking_up p f next)
+  looked_up : (f : Option Object) (next : Object → Taken) → lookup_of l.table m.parameter ≡ f → ((o : Object) → Names l.table m.parameter o → Unwritten (next o)) → Unwritten (looking_up p f next)
   unfolding looking_up
-  looked_up (found.Object o) next e h = h o (names_found l.table m.parameter o e)
-  looked_up found.Nothing next e h = failed cause.NoHash
+  looked_up (Some o) next e h = h o (names_found l.table m.parameter o e)
+  looked_up None next e h = failed cause.NoHash
 
   forwards_on : (x : ℕ) → Unwritten (forward_of p m x)
   unfolding forward_of

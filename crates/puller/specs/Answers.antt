@@ -1,10 +1,6 @@
 -- The numbers of the answers that are enums, and the values of each.
-use Rattle.std.specs.Prelude.{ℕ, Bool, true, false, List, [], ◌∷◌}
+use Rattle.std.specs.Prelude.{ℕ, Bool, true, false, List, [], ◌∷◌, Option, Some, None}
 use Rattle.puller.specs.declared.object.Object.{Object}
-use Rattle.puller.specs.declared.object.Found.{Found}
-use Rattle.puller.specs.declared.object.Found.TheVariants as found
-use Rattle.puller.specs.declared.object.Repeat.{Repeat}
-use Rattle.puller.specs.declared.object.Repeat.TheVariants as repeat
 
 -- a flag as a number
 unfoldable pub flag : Bool → ℕ
@@ -16,19 +12,19 @@ unfoldable pub object_values : Object → List ℕ
 object_values o = o.engine ∷ o.address ∷ o.class ∷ flag o.writeonly ∷ flag o.paged ∷ []
 
 -- what is looked up: an object, or nothing
-unfoldable pub found_number : Found → ℕ
-found_number (found.Object o) = 1
-found_number found.Nothing = 2
+unfoldable pub found_number : Option Object → ℕ
+found_number (Some o) = 1
+found_number None = 2
 
-unfoldable pub found_values : Found → List ℕ
-found_values (found.Object o) = object_values o
-found_values found.Nothing = []
+unfoldable pub found_values : Option Object → List ℕ
+found_values (Some o) = object_values o
+found_values None = []
 
 -- an entry, counted from 0, that repeats an earlier one; or nothing
-unfoldable pub repeat_number : Repeat → ℕ
-repeat_number (repeat.Entry i) = 1
-repeat_number repeat.Nothing = 2
+unfoldable pub repeat_number : Option ℕ → ℕ
+repeat_number (Some i) = 1
+repeat_number None = 2
 
-unfoldable pub repeat_values : Repeat → List ℕ
-repeat_values (repeat.Entry i) = i ∷ []
-repeat_values repeat.Nothing = []
+unfoldable pub repeat_values : Option ℕ → List ℕ
+repeat_values (Some i) = i ∷ []
+repeat_values None = []

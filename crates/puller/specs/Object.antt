@@ -1,13 +1,10 @@
 -- The object table.
-use Rattle.std.specs.Prelude.{ℕ, ◌+◌, ◌*◌, ◌/◌, Bool, List, length, ◌==◌, slice_index}
-use Rattle.std.proofs.Math.Option.{Option, none, some}
+use Rattle.std.specs.Prelude.{ℕ, ◌+◌, ◌*◌, ◌/◌, Bool, List, length, ◌==◌, slice_index, Option, Some, None}
+use Rattle.std.proofs.Math.Option as maybe
+use Rattle.std.proofs.Math.Option.{none, some}
 use Rattle.word.specs.Lowest.{lowest, found?}
 use Rattle.word.specs.Parts.{bits}
 use Rattle.puller.specs.declared.object.Object.{Object}
-use Rattle.puller.specs.declared.object.Found.{Found}
-use Rattle.puller.specs.declared.object.Found.TheVariants as found
-use Rattle.puller.specs.declared.object.Repeat.{Repeat}
-use Rattle.puller.specs.declared.object.Repeat.TheVariants as repeat
 
 -- P1: how many whole entries there are, of four words each, and word k of entry i
 abbrev pub entries : List ℕ → ℕ
@@ -34,22 +31,22 @@ object_at t i =
 unfoldable pub has : List ℕ → ℕ → ℕ → Bool
 has t h i = handle t i == h
 
-unfoldable pub found_at : List ℕ → Option ℕ → Found
-found_at t none = found.Nothing
-found_at t (some i) = found.Object (object_at t i)
+unfoldable pub found_at : List ℕ → maybe.Option ℕ → Option Object
+found_at t none = None
+found_at t (some i) = Some (object_at t i)
 
 -- P2: the object of the lowest entry that has it
-unfoldable pub lookup_of : List ℕ → ℕ → Found
+unfoldable pub lookup_of : List ℕ → ℕ → Option Object
 lookup_of t h = found_at t (lowest (has t h) (entries t))
 
 -- R6: whether an entry has the handle of an earlier one
 unfoldable pub repeats : List ℕ → ℕ → Bool
 repeats t j = found? (lowest (has t (handle t j)) j)
 
-unfoldable pub repeat_at : Option ℕ → Repeat
-repeat_at none = repeat.Nothing
-repeat_at (some i) = repeat.Entry i
+unfoldable pub repeat_at : maybe.Option ℕ → Option ℕ
+repeat_at none = None
+repeat_at (some i) = Some i
 
 -- R6: the lowest entry that has
-unfoldable pub repeat_of : List ℕ → Repeat
+unfoldable pub repeat_of : List ℕ → Option ℕ
 repeat_of t = repeat_at (lowest (repeats t) (entries t))

@@ -1,27 +1,26 @@
 -- The contracts of the public functions, each as a predicate over inputs, answer and lent memory.
-use Rattle.std.specs.Prelude.{◌≡◌, ℕ, Bool, List}
+use Rattle.std.specs.Prelude.{◌≡◌, ℕ, Bool, List, Option}
 use Rattle.word.specs.declared.setting.Level.{Level}
 use Rattle.event.specs.declared.Method.{Method}
 use Rattle.puller.specs.Loan.{PullerLoan, to_puller}
 use Rattle.puller.specs.Object.{lookup_of, repeat_of}
 use Rattle.puller.specs.Record.{number, halts}
 use Rattle.puller.specs.Taking.{Result, take_of, retry_of}
-use Rattle.puller.specs.declared.object.Found.{Found}
-use Rattle.puller.specs.declared.object.Repeat.{Repeat}
+use Rattle.puller.specs.declared.object.Object.{Object}
 use Rattle.puller.specs.declared.record.PullerError.{PullerError}
 use Rattle.puller.specs.declared.record.Puller.{Puller}
 use Rattle.puller.specs.declared.taking.Taken.{Taken}
 
 -- `lookup`, of a table and a handle
-abbrev pub Finds : List ℕ → ℕ → Found → Type 0
+abbrev pub Finds : List ℕ → ℕ → Option Object → Type 0
 Finds t h r = r ≡ lookup_of t h
 
 -- `first_repeat`, of a table
-abbrev pub Repeats : List ℕ → Repeat → Type 0
+abbrev pub Repeats : List ℕ → Option ℕ → Type 0
 Repeats t r = r ≡ repeat_of t
 
--- `PullerError::number` and `Puller::stopped`
-abbrev pub Numbers : PullerError → ℕ → Type 0
+-- `error_number`, `PullerError::number` of the error that it has, and `Puller::stopped`
+abbrev pub Numbers : Option PullerError → ℕ → Type 0
 Numbers e r = r ≡ number e
 
 abbrev pub Halts : Puller → Bool → Type 0

@@ -1,7 +1,8 @@
 -- The promises about the object table and the puller, each a statement that is proved under its own name in proofs/. They
 -- speak of the public functions through their contracts (Outcomes.antt): of everything that a contract allows.
-use Rattle.std.specs.Prelude.{◌≡◌, ℕ, ◌+◌, ◌*◌, ◌/◌, ◌%◌, ◌^◌, ◌<◌, ◌≤◌, Bool, true, false, ◌⊎◌, ◌↔◌, List, [], ◌∷◌, map, length, ◌≢◌, slice_index, slice_index_or, slice_set}
-use Rattle.std.proofs.Math.Option.{Option, some}
+use Rattle.std.specs.Prelude.{◌≡◌, ℕ, ◌+◌, ◌*◌, ◌/◌, ◌%◌, ◌^◌, ◌<◌, ◌≤◌, Bool, true, false, ◌⊎◌, ◌↔◌, List, [], ◌∷◌, map, length, ◌≢◌, slice_index, slice_index_or, slice_set, Option, Some, None}
+use Rattle.std.proofs.Math.Option as maybe
+use Rattle.std.proofs.Math.Option.{some}
 use Rattle.word.specs.declared.setting.Level.{Level}
 use Rattle.event.specs.Event.{values, number as kind_number}
 use Rattle.event.specs.Promises.{StandsIn}
@@ -13,8 +14,6 @@ use Rattle.puller.specs.Record.{number, with_engine, with_last, with_reference, 
 use Rattle.puller.specs.Answers.{object_values, found_number, found_values, repeat_number, repeat_values}
 use Rattle.puller.specs.Outcomes.{Finds, Repeats, Numbers, Halts, Takes, Retries}
 use Rattle.puller.specs.declared.object.Object.{Object}
-use Rattle.puller.specs.declared.object.Found.{Found}
-use Rattle.puller.specs.declared.object.Repeat.{Repeat}
 use Rattle.puller.specs.declared.record.PullerError.{PullerError}
 use Rattle.puller.specs.declared.record.PullerError.TheVariants as cause
 use Rattle.puller.specs.declared.record.AcquireMode.{AcquireMode}
@@ -51,19 +50,19 @@ NamesNone t handle = (i : ℕ) → Whole t i → handle_at t i ≢ handle
 -- P1, P2: `lookup` says so
 pub record Looks : Type 0 where
   pub named :
-      (t : List ℕ) (handle : ℕ) (o : Object) (r : Found)
+      (t : List ℕ) (handle : ℕ) (o : Object) (r : Option Object)
       → Finds t handle r
       → Names t handle o
       → (found_number r ≡ 1) × (found_values r ≡ object_values o)
-  pub unnamed : (t : List ℕ) (handle : ℕ) (r : Found) → Finds t handle r → NamesNone t handle → found_number r ≡ 2
+  pub unnamed : (t : List ℕ) (handle : ℕ) (r : Option Object) → Finds t handle r → NamesNone t handle → found_number r ≡ 2
   -- and the other way round
   pub always :
-      (t : List ℕ) (handle : ℕ) (o : Object) (r : Found)
+      (t : List ℕ) (handle : ℕ) (o : Object) (r : Option Object)
       → Finds t handle r
       → found_number r ≡ 1
       → found_values r ≡ object_values o
       → Names t handle o
-  pub never : (t : List ℕ) (handle : ℕ) (r : Found) → Finds t handle r → found_number r ≡ 2 → NamesNone t handle
+  pub never : (t : List ℕ) (handle : ℕ) (r : Option Object) → Finds t handle r → found_number r ≡ 2 → NamesNone t handle
 
 -- entry i repeats an earlier one
 pub record Repeated (t : List ℕ) (i : ℕ) : Type 0 where
@@ -74,10 +73,10 @@ pub record Repeated (t : List ℕ) (i : ℕ) : Type 0 where
 -- R6: the lowest that does
 pub record FirstRepeat : Type 0 where
   pub entry :
-      (t : List ℕ) (i : ℕ) (r : Repeat)
+      (t : List ℕ) (i : ℕ) (r : Option ℕ)
       → Repeats t r
       → ((repeat_number r ≡ 1) × (repeat_values r ≡ i ∷ [])) ↔ (Whole t i × Repeated t i × ((j : ℕ) → j < i → Repeated t j → ⊥))
-  pub nothing : (t : List ℕ) (r : Repeat) → Repeats t r → repeat_number r ≡ 2 ↔ ((i : ℕ) → Whole t i → Repeated t i → ⊥)
+  pub nothing : (t : List ℕ) (r : Option ℕ) → Repeats t r → repeat_number r ≡ 2 ↔ ((i : ℕ) → Whole t i → Repeated t i → ⊥)
 
 -- P13, P10: no semaphore to acquire or release, or one
 abbrev pub Unready : Level → Puller → Type 0
@@ -200,7 +199,7 @@ pub record Failed (p : Puller) (e : PullerError) (q : Puller) : Type 0 where
   pub reference : q.reference ≡ p.reference
   pub semaphore : q.semaphore ≡ p.semaphore
   pub acquire : q.acquire ≡ p.acquire
-  pub error : q.error ≡ e
+  pub error : q.error ≡ Some e
   pub long : q.long ≡ p.long
 
 -- P20: r leaves p so stopped and says so, without further fields
@@ -210,7 +209,7 @@ pub record Fails (p : Puller) (e : PullerError) (r : Taken) : Type 0 where
 
 -- P21, P5: q is p that the method m has stopped: all but the error stays, and the binding where engine 0 was bound
 abbrev pub StoppedBy : Puller → Method → Puller → Type 0
-StoppedBy p m q = Failed p q.error q ⊎ Failed (with_engine p m.subchannel 0) cause.EmptySubchannel q
+StoppedBy p m q = ((e : PullerError) × Failed p e q) ⊎ Failed (with_engine p m.subchannel 0) cause.EmptySubchannel q
 
 -- P25 to P30: the rules of long semaphores as sentences, as those below.
 pub record LongSentences (R : Level → Puller → Method → PullerLoan → Taken → List ℕ → Type 0) : Type 0 where
@@ -669,8 +668,10 @@ pub record Apart : Type 0 where
       → SameButLong p a b
 
 -- P23: the errors in order, after none.
-abbrev pub error_list : List (Option PullerError)
-error_list = map some (cause.None ∷ cause.NoHash ∷ cause.EmptySubchannel ∷ cause.Semaphore1 ∷ cause.Semaphore2 ∷ cause.Semaphore3 ∷ cause.Semaphore4 ∷ [])
+abbrev pub error_list : List (maybe.Option (Option PullerError))
+error_list =
+    map some
+    (None ∷ map Some (cause.NoHash ∷ cause.EmptySubchannel ∷ cause.Semaphore1 ∷ cause.Semaphore2 ∷ cause.Semaphore3 ∷ cause.Semaphore4 ∷ []))
 
 -- P23, S4: every error stands there, by its number; and `stopped` says whether there is one
 pub record Errors : Type 0 where
@@ -697,7 +698,7 @@ pub record Failing : Type 0 where
       → Retries level p sems r
       → number p.error ≡ 0
       → (number r.puller.error ≢ 0)
-      → Fails p r.puller.error r
+      → (e : PullerError) × Fails p e r
 
 -- What `take` is lent, by its own arguments, is what its contract speaks of, whole.
 abbrev pub Lends : Type 0
@@ -705,9 +706,9 @@ Lends = (t sems : List ℕ) (clock : ℕ) → to_puller t sems clock ≡ record 
 
 -- Each contract leaves one outcome.
 pub record One : Type 0 where
-  pub lookup : (t : List ℕ) (handle : ℕ) (a b : Found) → Finds t handle a → Finds t handle b → a ≡ b
-  pub first_repeat : (t : List ℕ) (a b : Repeat) → Repeats t a → Repeats t b → a ≡ b
-  pub number : (e : PullerError) (a b : ℕ) → Numbers e a → Numbers e b → a ≡ b
+  pub lookup : (t : List ℕ) (handle : ℕ) (a b : Option Object) → Finds t handle a → Finds t handle b → a ≡ b
+  pub first_repeat : (t : List ℕ) (a b : Option ℕ) → Repeats t a → Repeats t b → a ≡ b
+  pub number : (e : Option PullerError) (a b : ℕ) → Numbers e a → Numbers e b → a ≡ b
   pub stopped : (p : Puller) (a b : Bool) → Halts p a → Halts p b → a ≡ b
   pub take :
       (level : Level) (p : Puller) (m : Method) (l : PullerLoan) (a b : Taken) (x y : List ℕ)

@@ -1,5 +1,5 @@
 -- The puller's record: its errors' numbers, and the record with one thing changed.
-use Rattle.std.specs.Prelude.{ℕ, Bool, false, not, ◌==◌, slice_index, slice_set}
+use Rattle.std.specs.Prelude.{ℕ, Bool, false, not, ◌==◌, slice_index, slice_set, Option, Some, None}
 use Rattle.puller.specs.declared.record.PullerError.{PullerError}
 use Rattle.puller.specs.declared.record.PullerError.TheVariants as cause
 use Rattle.puller.specs.declared.record.Semaphore.{Semaphore}
@@ -8,22 +8,22 @@ use Rattle.puller.specs.declared.record.AcquireMode.{AcquireMode}
 use Rattle.puller.specs.declared.record.Puller.{Puller}
 
 -- P23: the errors' numbers; 0 is none
-unfoldable pub number : PullerError → ℕ
-number cause.None = 0
-number cause.NoHash = 1
-number cause.EmptySubchannel = 2
-number cause.Semaphore1 = 3
-number cause.Semaphore2 = 4
-number cause.Semaphore3 = 5
-number cause.Semaphore4 = 6
+unfoldable pub number : Option PullerError → ℕ
+number None = 0
+number (Some cause.NoHash) = 1
+number (Some cause.EmptySubchannel) = 2
+number (Some cause.Semaphore1) = 3
+number (Some cause.Semaphore2) = 4
+number (Some cause.Semaphore3) = 5
+number (Some cause.Semaphore4) = 6
 
 -- S4, P20: an error stops the puller
-unfoldable pub halts : PullerError → Bool
+unfoldable pub halts : Option PullerError → Bool
 halts e = not (number e == 0)
 
 -- P20: the error is stored, and nothing else with it
 abbrev pub with_error : Puller → PullerError → Puller
-with_error p e = record { engines = p.engines; last = p.last; reference = p.reference; semaphore = p.semaphore; acquire = p.acquire; error = e; long = p.long }
+with_error p e = record { engines = p.engines; last = p.last; reference = p.reference; semaphore = p.semaphore; acquire = p.acquire; error = Some e; long = p.long }
 
 -- P24: the engine of a subchannel; there are eight, and a number above them reads 0 and stores nothing
 abbrev pub engine_of : Puller → ℕ → ℕ

@@ -1,5 +1,5 @@
 -- What the puller does with a method, and with an acquire that waits (docs/CARD.md, P).
-use Rattle.std.specs.Prelude.{ℕ, ◌+◌, ◌-◌, ◌*◌, ◌/◌, ◌%◌, ◌^◌, Bool, true, not, ◌&&◌, ◌||◌, List, [], ◌∷◌, length, ◌==◌, nat_le, nat_lt, slice_index, slice_set}
+use Rattle.std.specs.Prelude.{ℕ, ◌+◌, ◌-◌, ◌*◌, ◌/◌, ◌%◌, ◌^◌, Bool, true, not, ◌&&◌, ◌||◌, List, [], ◌∷◌, length, ◌==◌, nat_le, nat_lt, slice_index, slice_set, Option, Some, None}
 use Rattle.std.proofs.lemmas.List.Edits.{sets}
 use Rattle.word.specs.First.{choose}
 use Rattle.word.specs.Parts.{bits}
@@ -11,8 +11,6 @@ use Rattle.puller.specs.Object.{lookup_of}
 use Rattle.puller.specs.Loan.{PullerLoan}
 use Rattle.puller.specs.Record.{with_error, engine_of, with_engine, with_last, with_reference, with_dma, with_offset, with_acquire, without_acquire, with_address, with_sequence}
 use Rattle.puller.specs.declared.object.Object.{Object}
-use Rattle.puller.specs.declared.object.Found.{Found}
-use Rattle.puller.specs.declared.object.Found.TheVariants as found
 use Rattle.puller.specs.declared.record.PullerError.{PullerError}
 use Rattle.puller.specs.declared.record.PullerError.TheVariants as cause
 use Rattle.puller.specs.declared.record.AcquireMode.{AcquireMode}
@@ -74,9 +72,9 @@ abbrev pub failed_by : Puller → PullerError → Taken
 failed_by p e = saying (with_error p e) kind.Error
 
 -- P2: a handle that names no object is NO_HASH
-unfoldable pub looking_up : Puller → Found → (Object → Taken) → Taken
-looking_up p (found.Object o) next = next o
-looking_up p found.Nothing next = failed_by p cause.NoHash
+unfoldable pub looking_up : Puller → Option Object → (Object → Taken) → Taken
+looking_up p (Some o) next = next o
+looking_up p None next = failed_by p cause.NoHash
 
 -- P4, P5: the engine is bound, and becomes the last one, unless it is 0
 unfoldable pub bind_to : Puller → Method → Object → Taken

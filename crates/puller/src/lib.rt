@@ -5,6 +5,8 @@ mod object;
 mod record;
 mod taking;
 
-pub use object::{Found, Object, Repeat, first_repeat, lookup};
-pub use record::{Acquire, AcquireMode, LongSemaphore, Puller, PullerError, Semaphore};
+pub use object::{Object, first_repeat, lookup};
+pub use record::{
+    Acquire, AcquireMode, LongSemaphore, Puller, PullerError, Semaphore, error_number,
+};
 pub use taking::{Taken, retry, take};

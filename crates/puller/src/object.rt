@@ -1,7 +1,8 @@
 // The object table: entries of four words, the first of them the handle. A last entry that isn't
 // whole does not exist.
-ghost use Rattle.std.specs.Prelude.{◌≡◌, ◌+◌, ◌*◌, ◌<◌, length};
-ghost use Rattle.puller.specs.Object.{object_at};
+ghost use Rattle.std.specs.Prelude.{◌≡◌, ◌<◌, length};
+ghost use Rattle.std.specs.Simd.{first_chunks};
+ghost use Rattle.puller.specs.Object.{entries, object_at, repeats};
 ghost use Rattle.puller.specs.Outcomes.{Finds, Repeats};
 
 #[derive(Clone, Copy)]
@@ -13,65 +14,45 @@ pub struct Object {
     pub paged: bool,
 }
 
-#[derive(Clone, Copy)]
-pub enum Found {
-    Object { object: Object },
-    Nothing,
-}
-
-// The first entry whose handle stood before, if there is one.
-#[derive(Clone, Copy)]
-pub enum Repeat {
-    Entry { index: usize },
-    Nothing,
-}
-
 // The object of the lowest entry with a handle.
-pub fn lookup(table: &[u32], handle: u32) -> Found
+pub fn lookup(table: &[u32], handle: u32) -> Option<Object>
     ensures { Finds table.now handle result }
 {
-    let entries = table.len() / 4;
-    for entry in 0..entries {
-        if table[4 * entry] == handle {
-            return Found::Object {
-                object: object_at(table, entry),
-            };
-        }
-    }
-    Found::Nothing
+    let (entries, _) = table.as_chunks::<4>();
+    entries
+        .iter()
+        .find(|entry| entry[0] == handle)
+        .map(object_of)
 }
 
 // The object that an entry describes.
 #[tactic(auto, unfolding(crate::specs::Object::object_at))]
-fn object_at(table: &[u32], entry: usize) -> Object
-    requires { 4 * entry + 3 < length table.now }
-    ensures { result ≡ object_at table.now entry }
+fn object_of(entry: &[u32; 4]) -> Object
+    ensures { result ≡ object_at entry.now 0 }
 {
-    let at = 4 * entry;
-    let kind = table[at + 3];
+    let [_, engine, address, kind] = *entry;
     Object {
-        engine: table[at + 1] & 0x1f,
-        address: table[at + 2],
+        engine: engine & 0x1f,
+        address,
         class: kind & 0xffff,
         writeonly: (kind >> 16) & 1 == 1,
         paged: (kind >> 17) & 1 == 1,
     }
 }
 
-// The lowest entry with the handle of an earlier one. Every later entry is held against every
-// earlier one, and both loops are left at the first that has its handle.
-pub fn first_repeat(table: &[u32]) -> Repeat
+// The lowest entry with the handle of an earlier one.
+pub fn first_repeat(table: &[u32]) -> Option<usize>
     ensures { Repeats table.now result }
 {
-    let entries = table.len() / 4;
-    let mut found = Repeat::Nothing;
-    'entries: for later in 0..entries {
-        for earlier in 0..later {
-            if table[4 * earlier] == table[4 * later] {
-                found = Repeat::Entry { index: later };
-                break 'entries;
-            }
-        }
-    }
-    found
+    (0..table.len() / 4).find(|&later| repeats(table, later))
+}
+
+// Whether an entry has the handle of an earlier one.
+fn repeats(table: &[u32], later: usize) -> bool
+    requires { later < entries table.now }
+    ensures { result ≡ repeats table.now later }
+{
+    let (entries, _) = table.as_chunks::<4>();
+    let [handle, ..] = entries[later];
+    entries[..later].iter().any(|entry| entry[0] == handle)
 }

@@ -1,48 +1,34 @@
 // The puller's record.
-ghost use Rattle.std.specs.Prelude.{◌≡◌, true};
+ghost use Rattle.std.specs.Prelude.{◌≡◌, true, Some};
 ghost use Rattle.puller.specs.Record.{with_error, with_acquire};
 ghost use Rattle.puller.specs.Outcomes.{Numbers, Halts};
 
-// What stopped the puller: CACHE_ERROR NO_HASH or EMPTY_SUBCHANNEL, or SEMAPHORE 1 to 4.
+// What stopped the puller, by its number: CACHE_ERROR NO_HASH or EMPTY_SUBCHANNEL, or SEMAPHORE 1 to 4.
 #[derive(Clone, Copy)]
 pub enum PullerError {
-    None,
-    NoHash,
-    EmptySubchannel,
-    Semaphore1,
-    Semaphore2,
-    Semaphore3,
-    Semaphore4,
+    NoHash = 1,
+    EmptySubchannel = 2,
+    Semaphore1 = 3,
+    Semaphore2 = 4,
+    Semaphore3 = 5,
+    Semaphore4 = 6,
 }
 
 impl PullerError {
-    pub const NO_HASH: u32 = 1;
-
-    pub const EMPTY_SUBCHANNEL: u32 = 2;
-
-    pub const SEMAPHORE_1: u32 = 3;
-
-    pub const SEMAPHORE_2: u32 = 4;
-
-    pub const SEMAPHORE_3: u32 = 5;
-
-    pub const SEMAPHORE_4: u32 = 6;
-
-    // An error's number, 0 for none.
     #[tactic(auto, unfolding(crate::specs::Record::number))]
     pub fn number(self) -> u32
-        ensures { Numbers self result }
+        ensures { Numbers (Some self) result }
     {
-        match self {
-            PullerError::None => 0,
-            PullerError::NoHash => PullerError::NO_HASH,
-            PullerError::EmptySubchannel => PullerError::EMPTY_SUBCHANNEL,
-            PullerError::Semaphore1 => PullerError::SEMAPHORE_1,
-            PullerError::Semaphore2 => PullerError::SEMAPHORE_2,
-            PullerError::Semaphore3 => PullerError::SEMAPHORE_3,
-            PullerError::Semaphore4 => PullerError::SEMAPHORE_4,
-        }
+        self as u32
     }
+}
+
+// The number of an error, 0 for none.
+#[tactic(auto, unfolding(crate::specs::Record::number))]
+pub fn error_number(error: Option<PullerError>) -> u32
+    ensures { Numbers error result }
+{
+    error.map_or(0, PullerError::number)
 }
 
 // Where semaphores are: the object's address, 0 where none is bound, and the offset in bytes.
@@ -84,35 +70,25 @@ pub struct Puller {
     pub reference: u32,
     pub semaphore: Semaphore,
     pub acquire: Acquire,
-    pub error: PullerError,
+    pub error: Option<PullerError>,
     pub long: LongSemaphore,
 }
 
 impl Puller {
     // Whether an error has stopped the puller.
-    #[tactic(auto, unfolding(crate::specs::Record::halts))]
+    #[tactic(auto, unfolding(crate::specs::Record::halts, crate::specs::Record::number))]
     pub fn stopped(self) -> bool
         ensures { Halts self result }
     {
-        let error = self.error;
-        error.number() != 0
+        self.error.is_some()
     }
 
     pub(crate) fn with_error(self, error: PullerError) -> Puller
         ensures { result ≡ with_error self error }
     {
-        let engines = self.engines;
-        let semaphore = self.semaphore;
-        let acquire = self.acquire;
-        let long = self.long;
         Puller {
-            engines,
-            last: self.last,
-            reference: self.reference,
-            semaphore,
-            acquire,
-            error,
-            long,
+            error: Some(error),
+            ..self
         }
     }
 
@@ -120,22 +96,13 @@ impl Puller {
     pub(crate) fn with_acquire(self, value: u32, mode: AcquireMode) -> Puller
         ensures { result ≡ with_acquire self true value mode }
     {
-        let engines = self.engines;
-        let semaphore = self.semaphore;
-        let error = self.error;
-        let long = self.long;
         Puller {
-            engines,
-            last: self.last,
-            reference: self.reference,
-            semaphore,
             acquire: Acquire {
                 active: true,
                 value,
                 mode,
             },
-            error,
-            long,
+            ..self
         }
     }
 }

@@ -3,6 +3,7 @@ use Prim.Native.Nat.{ℕ, ◌≤◌}
 use mathlib.Core.Path.{◌≡◌, refl, sym, ap, ◌∙◌}
 use mathlib.Core.Bool.{Bool, true, false, false≢true}
 use native.Mathlib.Omega.{arith}
+use Rattle.std.specs.Prelude.{Some}
 use Rattle.word.specs.declared.why.Why.TheVariants as why
 use Rattle.word.specs.declared.reading.Reading.{Reading}
 use Rattle.word.specs.declared.reading.Reading.TheVariants.{Increasing, NonIncreasing, Sli, Return, Long, OldJump, Jump, Call, Reserved, Refused}
@@ -20,22 +21,22 @@ use Rattle.pusher.specs.declared.moving.Pushed.{Pushed}
 use Rattle.pusher.specs.declared.entry.Entry.{Entry}
 use Rattle.pusher.proofs.PastWord.{advanced_only}
 use Rattle.pusher.proofs.Roles.{Facts, facts}
-use Rattle.pusher.proofs.Outcomes.{fails_of}
+use Rattle.pusher.proofs.Outcomes.{ends_with, fails_of}
 use Rattle.pusher.proofs.Sentences.{runs, past_is, rises_to}
 
 -- the pushers to which a move may add nothing but the error: q past the word, i at the next entry, p itself
 module _ (q i p : Pusher) where
   -- which of them it is, by the error's number
   record Fate (r : Pushed) : Type 0 where
-    word : 1 ≤ number r.pusher.error → number r.pusher.error ≤ 4 → r ≡ failed_by q r.pusher.error
-    entry : number r.pusher.error ≡ 5 → r ≡ failed_by i r.pusher.error
-    protection : number r.pusher.error ≡ 6 → r ≡ failed_by p r.pusher.error
+    word : 1 ≤ number r.pusher.error → number r.pusher.error ≤ 4 → r ≡ ends_with q r.pusher.error
+    entry : number r.pusher.error ≡ 5 → r ≡ ends_with i r.pusher.error
+    protection : number r.pusher.error ≡ 6 → r ≡ ends_with p r.pusher.error
 
   -- without an error it is none of them
   runs_on : (r : Pushed) → Running r.pusher → Fate r
   runs_on r run = record { word = λ a b. absurd (omega arith); entry = λ a. absurd (omega arith); protection = λ a. absurd (omega arith) }
 
-  word_fails : (e : PusherError) → 1 ≤ number e → number e ≤ 4 → Fate (failed_by q e)
+  word_fails : (e : PusherError) → 1 ≤ number (Some e) → number (Some e) ≤ 4 → Fate (failed_by q e)
   word_fails e a b = record { word = λ c d. refl; entry = λ c. absurd (omega arith); protection = λ c. absurd (omega arith) }
 
   -- of a word, where q runs on

@@ -1,5 +1,4 @@
 pub mod Entries
-pub mod Commands
 pub mod Roles
 pub mod PastWord
 pub mod Share

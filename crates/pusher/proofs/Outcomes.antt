@@ -4,6 +4,8 @@ use mathlib.Core.Path.{◌≡◌, refl, sym, ap, ap₂, ◌∙◌}
 use mathlib.Core.List.{List}
 use mathlib.Core.Option.{Option, some}
 use native.Mathlib.Omega.{arith}
+use Rattle.std.specs.Prelude as std
+use Rattle.std.specs.Prelude.{Some}
 use Rattle.word.specs.Why.{why_number}
 use Rattle.word.specs.Reading as reading
 use Rattle.word.specs.declared.why.Why.{Why}
@@ -16,7 +18,7 @@ use Rattle.event.specs.declared.Kind.{Kind}
 use Rattle.event.specs.declared.Kind.TheVariants as kind
 use Rattle.event.specs.declared.Method.{Method}
 use Rattle.event.specs.declared.Event.TheVariants.{Plain, Of}
-use Rattle.pusher.specs.Record.{number, why, with_error}
+use Rattle.pusher.specs.Record.{number, why}
 use Rattle.pusher.specs.Moving.{quietly, failed_by, commanded}
 use Rattle.pusher.specs.Answers.{did_number, did_values, Tells}
 use Rattle.pusher.specs.Promises.{Leaves, Says, Discards, HandsOver, Failed, Fails, Reserves}
@@ -30,9 +32,7 @@ use Rattle.pusher.proofs.Told.{told, error_told, other_told}
 
 -- the record leaves what it holds
 leaves_of : (q : Pusher) (d : Did) {r : Pushed} → r ≡ record { pusher = q; did = d } → Leaves q (did_number d) (did_values d) r
-leaves_of q d {r = r} e =
-    let said : r.did ≡ d = ap (λ (x : Pushed). x.did) e in
-    record { pusher = ap (λ (x : Pushed). x.pusher) e; did = record { number = ap did_number said; values = ap did_values said } }
+leaves_of q d e = rw e (record { pusher = refl; did = record { number = refl; values = refl } })
 
 pub says_of : {q : Pusher} (k : Kind) {r : Pushed} → r ≡ quietly q k → Says q k r
 unfolding did_number did_values event.values
@@ -46,26 +46,21 @@ pub hands_over_of : {q : Pusher} {m : Method} {r : Pushed} → r ≡ record { pu
 unfolding did_number did_values
 hands_over_of e = leaves_of _ _ e
 
-pub fails_of : {p : Pusher} (e : PusherError) {r : Pushed} → r ≡ failed_by p e → Fails p (number e) r
-fails_of e h =
-    record {
-      pusher =
-          record {
-            get = ap (λ (x : Pushed). x.pusher.get) h;
-            put = ap (λ (x : Pushed). x.pusher.put) h;
-            run = ap (λ (x : Pushed). x.pusher.run) h;
-            subroutine = ap (λ (x : Pushed). x.pusher.subroutine) h;
-            ib = ap (λ (x : Pushed). x.pusher.ib) h;
-            main = ap (λ (x : Pushed). x.pusher.main) h;
-            sli = ap (λ (x : Pushed). x.pusher.sli) h;
-            error = ap (λ (x : Pushed). number x.pusher.error) h;
-          };
-      did = (says_of kind.Error h).did;
-    }
+-- as a move leaves p that fails: with e where its error was, and saying error
+abbrev pub ends_with : Pusher → std.Option PusherError → Pushed
+ends_with p e = quietly (record { get = p.get; put = p.put; run = p.run; subroutine = p.subroutine; ib = p.ib; main = p.main; sli = p.sli; error = e }) kind.Error
+
+pub fails_of : {p : Pusher} (e : std.Option PusherError) {r : Pushed} → r ≡ ends_with p e → Fails p (number e) r
+fails_of {p} e h =
+    rw h
+    (record {
+      pusher = record { get = refl; put = refl; run = refl; subroutine = refl; ib = refl; main = refl; sli = refl; error = refl };
+      did = (says_of {q = p} kind.Error refl).did;
+    })
 
 reserves_of : {p : Pusher} (y : Why) {r : Pushed} → r ≡ failed_by p (cause.ReservedCmd y) → Reserves p (some (why_number y)) r
 unfolding number why
-reserves_of y h = record { fails = fails_of (cause.ReservedCmd y) h; why = ap (λ (x : Pushed). why x.pusher.error) h }
+reserves_of y h = record { fails = fails_of (Some (cause.ReservedCmd y)) h; why = ap (λ (x : Pushed). why x.pusher.error) h }
 
 -- a reserved word, and a reading at a setting that is refused
 pub reserved_is : (q : Pusher) (x : Reading) {r : Pushed} → r ≡ commanded q x → reading.number x ≡ 9 → Reserves q (reading.why x) r
@@ -102,15 +97,15 @@ pub leaves_one : {q : Pusher} {k : ℕ} {said : List ℕ} (x y : Pushed) → Lea
 leaves_one x y a b = ap₂ (λ (p : Pusher) (d : Did). record { pusher = p; did = d }) (one_outcome a.pusher b.pusher) (did_one x.did y.did a.did b.did)
 
 -- a stopped pusher is the other with its error
-pub failed_is : (p : Pusher) (n : ℕ) (q : Pusher) → Failed p n q → q ≡ with_error p q.error
+pub failed_is : (p : Pusher) (n : ℕ) (q : Pusher) → Failed p n q → q ≡ (ends_with p q.error).pusher
 failed_is p n q f = rw (sym f.get, sym f.put, sym f.run, sym f.subroutine, sym f.ib, sym f.main, sym f.sli)
 
-pub fails_is : (p : Pusher) (n : ℕ) (r : Pushed) → Fails p n r → r ≡ failed_by p r.pusher.error
-fails_is p n r f = leaves_one r (failed_by p r.pusher.error) (record { pusher = failed_is p n r.pusher f.pusher; did = f.did }) (says_of kind.Error refl)
+pub fails_is : (p : Pusher) (n : ℕ) (r : Pushed) → Fails p n r → r ≡ ends_with p r.pusher.error
+fails_is p n r f = leaves_one r (ends_with p r.pusher.error) (record { pusher = failed_is p n r.pusher f.pusher; did = f.did }) (says_of kind.Error refl)
 
 -- two that fail alike are one where their errors are
 same_error : {p : Pusher} {n : ℕ} (x y : Pushed) → Fails p n x → Fails p n y → x.pusher.error ≡ y.pusher.error → x ≡ y
-same_error {p} {n} x y a b e = fails_is p n x a ∙ ap (failed_by p) e ∙ sym (fails_is p n y b)
+same_error {p} {n} x y a b e = fails_is p n x a ∙ ap (ends_with p) e ∙ sym (fails_is p n y b)
 
 pub fails_one : {p : Pusher} {n : ℕ} (x y : Pushed) → (n ≡ 4 → ⊥) → Fails p n x → Fails p n y → x ≡ y
 fails_one x y h a b =

@@ -9,7 +9,9 @@ use native.Mathlib.Omega.{arith}
 use lib.Bits.{bit_and}
 use lib.Dec.{eqb, ltb, leb}
 use lib.ListN.{length, get_or}
-use borrow.Author.Tests.{ne_eqb, eqb-true, eqb-false, leb-true, leb-false, lt-ltb, le-ltb, not-true}
+use borrow.Author.Tests.{eqb-true, eqb-false, leb-true, leb-false, lt-ltb, le-ltb}
+use Rattle.std.specs.Prelude.{Some}
+use Rattle.std.proofs.lemmas.Bool.Decides.{nat_tests}
 use Rattle.word.specs.First.{choose}
 use Rattle.word.specs.Parts.{numbers_in}
 use Rattle.word.specs.Special.{present_of}
@@ -43,29 +45,23 @@ counted_is q r w e = let low : w / 2 ^ 0 % 2 ^ 24 ≡ w % 2 ^ 24 = omega arith i
 
 -- what commands do
 begun_nothing : (q : Pusher) (b m : ℕ) (up : Bool) → begun q 0 b m up ≡ quietly q kind.Command
-unfolding begun
-begun_nothing q b m up = choose_true refl _ _
+unfolding begun choose
+begun_nothing q b m up = refl
 
 begun_some : (q : Pusher) (r : Run) (c b n : ℕ) (up : Bool) → q.run ≡ r → r.awaited ≡ false → (c ≡ 0 → ⊥) → begun q c b (4 * n) up ≡ quietly (with_run q (record { count = c; method = n; subchannel = b; increasing = up; awaited = false })) kind.Command
-unfolding begun
-begun_some q r c b n up e a some = let number : 4 * n / 4 ≡ n = omega arith in choose_false (ne_eqb _ _ some) _ _ ∙ rw (e, a, number)
+unfolding begun choose
+begun_some q r c b n up e a some = grind (arith, nat_tests)
 
 long_is : (q : Pusher) (r : Run) (b n c : ℕ) → q.run ≡ r → r.count ≡ 0 → commanded q (Long b (4 * n) c) ≡ quietly (with_run q (record { count = 0; method = n; subchannel = b; increasing = false; awaited = true })) kind.Command
 unfolding commanded
-long_is q r b n c e z = let number : 4 * n / 4 ≡ n = omega arith in rw (e, z, number)
+long_is q r b n c e z = grind arith
 
 -- the flag that says whether the masks share a set bit
 flag_of : (k mask : ℕ) → not (eqb (bit_and k mask) 0) ≡ true ↔ Share k mask
-flag_of k mask = (λ e. (share k mask).0 (eqb-false _ _ (not-true _ e)), λ x. ap not (ne_eqb _ _ ((share k mask).1 x)))
+flag_of k mask = (λ e. (share k mask).0 (grind (arith, nat_tests)), λ x. grind (arith, nat_tests, (share k mask).1 x))
 
 flag_is : (k mask : ℕ) (active : Bool) → active ≡ true ↔ Share k mask → not (eqb (bit_and k mask) 0) ≡ active
-flag_is k mask active h = go (eqb (bit_and k mask) 0) active refl refl
-  where
-    go : (b a : Bool) → eqb (bit_and k mask) 0 ≡ b → active ≡ a → not (eqb (bit_and k mask) 0) ≡ active
-    go true true e f = absurd ((share k mask).1 (h.0 f) (eqb-true _ _ e))
-    go true false e f = rw (e, f)
-    go false true e f = rw (e, f)
-    go false false e f = absurd (false≢true (sym f ∙ h.1 ((share k mask).0 (eqb-false _ _ e))))
+flag_is k mask active h = grind (arith, nat_tests, share k mask)
 
 pub pushes : Pushes
 unfolding act commanded conditional called returned number reading.number reading.values
@@ -75,11 +71,11 @@ pushes =
       idle = λ s p l r m run e h.
           let go = runs p.error run in
           says_of kind.Idle (m ∙ by_role s p l idles (⊎_elim (without_ib s p l go e) (without_entries s p l go e) h));
-      protection = λ s p l r m run n h. fails_of cause.Protection (m ∙ by_role s p l faults (when_words s p l (runs p.error run) n ∙ no_word s p l.words h));
+      protection = λ s p l r m run n h. fails_of (Some cause.Protection) (m ∙ by_role s p l faults (when_words s p l (runs p.error run) n ∙ no_word s p l.words h));
       count = λ s p q l w r m rd e past.
           says_of kind.Count (m ∙ count_is s p l q w rd e past ∙ counted_is q p.run w (keeps s p q past).run);
       non_cache = λ s p q l w r m rd no.
-          fails_of cause.NonCache (m ∙ parameter_is s p l q w rd ∙ non_cache_is s q w (rw (keeps s p q rd.past).run (sym no)));
+          fails_of (Some cause.NonCache) (m ∙ parameter_is s p l q w rd ∙ non_cache_is s q w (rw (keeps s p q rd.past).run (sym no)));
       discard = λ s p q l w n r m rd ri yes on off.
           let k = keeps s p q rd.past in
           discards_of
@@ -114,20 +110,20 @@ pushes =
           let k = keeps s p q rd.past in
           says_of kind.Command (m ∙ command_is s p l q (Call t) rd refl refl (λ z. omega arith) ∙ choose_false (rw k.subroutine off) _ _ ∙ rw k.get);
       call_inside = λ s p q l t r m rd on.
-          fails_of cause.Call (m ∙ command_is s p l q (Call t) rd refl refl (λ z. omega arith) ∙ choose_true (rw (keeps s p q rd.past).subroutine on) _ _);
+          fails_of (Some cause.Call) (m ∙ command_is s p l q (Call t) rd refl refl (λ z. omega arith) ∙ choose_true (rw (keeps s p q rd.past).subroutine on) _ _);
       return = λ s p q l r m rd on.
           let k = keeps s p q rd.past in
           says_of kind.Command (m ∙ command_is s p l q Return rd refl refl (λ z. omega arith) ∙ choose_false (rw (k.subroutine, on)) _ _ ∙ rw k.subroutine);
       return_outside = λ s p q l r m rd off.
-          fails_of cause.Return (m ∙ command_is s p l q Return rd refl refl (λ z. omega arith) ∙ choose_true (rw ((keeps s p q rd.past).subroutine, off)) _ _);
+          fails_of (Some cause.Return) (m ∙ command_is s p l q Return rd refl refl (λ z. omega arith) ∙ choose_true (rw ((keeps s p q rd.past).subroutine, off)) _ _);
       reserved = λ s p q l ns r m rd. reserved_is q rd.command (m ∙ reading_is s p l q rd) rd.number;
       refused = λ s p q l ns r m rd. refused_is q rd.command (m ∙ reading_is s p l q rd) rd.number;
       no_entry = λ s p l r m nx h.
-          fails_of cause.Protection
+          fails_of (Some cause.Protection)
           (m
           ∙ by_role s p l faults
           (when_entries s p l (runs p.error nx.running) nx.equal nx.ib nx.unequal ∙ past_entries p l.entries h));
-      empty_entry = λ s p l e i r m rd z. fails_of cause.Ib (m ∙ entry_is s p l e i rd ∙ empty_is _ e z);
+      empty_entry = λ s p l e i r m rd z. fails_of (Some cause.Ib) (m ∙ entry_is s p l e i rd ∙ empty_is _ e z);
       entry_not_main = λ s p l e i r m rd some b. says_of kind.Entry (m ∙ entry_is s p l e i rd ∙ not_main_is _ e some b);
       entry_main = λ s p l e i r m rd some b. says_of kind.Entry (m ∙ entry_is s p l e i rd ∙ main_is _ e some b);
     }
@@ -242,11 +238,7 @@ module _ (R : Setup → Pusher → PusherLoan → Pushed → Type 0) (h : Senten
             next = nx;
             lent = lent;
             entry = refl;
-            rises =
-                record {
-                  within = λ o. rw (choose_false (le-ltb 12 s.order o) 12 s.order);
-                  over = λ o. rw (choose_true (lt-ltb 12 s.order o) 12 s.order);
-                };
+            rises = record { within = λ o. rw (choose_false (le-ltb 12 s.order o) 12 s.order); over = λ o. rw (choose_true (lt-ltb 12 s.order o) 12 s.order) };
           }
 
       there : p.ib.get < length l.entries → (a b : Bool) → eqb (size_in e) 0 ≡ a → eqb (e / 2 ^ 41 % 2) 1 ≡ b → Moves s p l r

@@ -4,6 +4,7 @@ use mathlib.Core.Path.{◌≡◌}
 use mathlib.Core.Bool.{false}
 use mathlib.Core.Logic.{◌↔◌}
 use borrow.Author.Tests.{eqb-true, not-false}
+use Rattle.std.specs.Prelude.{Option}
 use Rattle.pusher.specs.Loan.{PusherLoan}
 use Rattle.pusher.specs.Record.{number, halts}
 use Rattle.pusher.specs.Moving.{submits, commands, role}
@@ -15,7 +16,7 @@ use Rattle.pusher.proofs.Roles.{AtWord, Facts, facts}
 use Rattle.pusher.proofs.Sentences.{parameter_role, command_role}
 
 -- an error that does not halt is none
-pub unhalted : (e : PusherError) → halts e ≡ false → number e ≡ 0
+pub unhalted : (e : Option PusherError) → halts e ≡ false → number e ≡ 0
 unfolding halts
 unhalted e h = eqb-true _ _ (not-false _ h)
 

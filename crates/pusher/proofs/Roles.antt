@@ -1,15 +1,18 @@
 -- Which role a move has, by the tests that decide it; and what a role knows. Assumes nothing.
 use Prim.Native.Nat.{ℕ, ◌/◌, ◌≤◌, ◌<◌}
-use mathlib.Core.Path.{◌≡◌, refl, sym, ap, ◌∙◌}
-use mathlib.Core.Bool.{Bool, true, false, not, ◌&&◌, ◌||◌, and-false, false≢true}
+use mathlib.Core.Path.{◌≡◌}
+use mathlib.Core.Bool.{true, false, not}
 use mathlib.Core.List.{List}
 use mathlib.Core.Logic.{◌⊎◌, inl, inr, ⊎_elim, ◌↔◌}
+use native.Mathlib.Omega.{arith}
 use lib.Dec.{eqb}
 use lib.ListN.{length}
-use borrow.Author.Tests.{le-ltb, le-leb, lt-leb, eq-eqb, ne_eqb, ltb-false, leb-true, leb-false, eqb-true, eqb-false, not-true, not-false}
+use borrow.Author.Tests.{leb-true, leb-false, eqb-true, eqb-false, not-true, not-false}
+use Rattle.std.proofs.lemmas.Bool.{and_cases}
+use Rattle.std.proofs.lemmas.Bool.Decides.{nat_tests}
 use Rattle.word.specs.First.{choose}
-use Rattle.word.proofs.First.{by_test, choose_true, choose_false}
-use Rattle.word.proofs.Tests.{both, not_plain, or_plain, and_plain, less_plain, equal_plain, most_plain}
+use Rattle.word.proofs.First.{by_test, choose_true}
+use Rattle.word.proofs.Tests.{both}
 use Rattle.pusher.specs.Loan.{PusherLoan}
 use Rattle.pusher.specs.Record.{halts}
 use Rattle.pusher.specs.Moving.{Role, halted, faults, counts, submits, commands, enters, idles, beyond, word_role, entry_role, role}
@@ -17,56 +20,42 @@ use Rattle.pusher.specs.Promises.{InIb, NoWord}
 use Rattle.pusher.specs.declared.record.Setup.{Setup}
 use Rattle.pusher.specs.declared.record.Pusher.{Pusher}
 
--- a test of two that fails
-neither : (a b : Bool) → (a || b) ≡ false → (a ≡ false) × (b ≡ false)
-neither true b e = absurd (false≢true (sym e))
-neither false b e = (refl, e)
-
--- a test that counts only where another fails
-unless : (a b : Bool) {P Q : Type 0} → a ≡ true ↔ P → b ≡ false ↔ Q → (not a && b) ≡ false ↔ ((P → ⊥) → Q)
-unless true b p q = (λ e n. absurd (n (p.0 refl)), λ h. refl)
-unless false b p q = (λ e n. q.0 e, λ h. q.1 (h (λ x. false≢true (p.1 x))))
-
 -- where a word is to be read
 module _ (s : Setup) (p : Pusher) (ws : List ℕ) where
   -- S10: it is not there, or it is
   pub missing : beyond s p ws ≡ true ↔ NoWord s p ws
-  missing = or_plain _ _ (and_plain _ _ (not_plain _ (equal_plain _ _)) (less_plain _ _)) (most_plain _ _)
+  missing = (λ b. grind (arith, nat_tests), λ h. grind (arith, nat_tests))
 
   pub readable : beyond s p ws ≡ false ↔ (((InIb s → ⊥) → p.get ≤ s.limit) × (p.get / 4 < length ws))
-  readable =
-      let limit = unless _ _ (equal_plain s.setting.mode.number 1) (ltb-false s.limit p.get, le-ltb _ _) in (
-        λ b. let n = neither _ _ b in (limit.0 n.0, leb-false _ _ n.1),
-        λ h. rw (limit.1 h.0, lt-leb _ _ h.1),
-      )
+  readable = (λ b. grind (arith, nat_tests), λ h. grind (arith, nat_tests))
 
   pub no_word : NoWord s p ws → word_role s p ws ≡ faults
-  unfolding word_role
-  no_word h = choose_true (missing.1 h) _ _
+  unfolding word_role choose
+  no_word h = grind (arith, nat_tests)
 
   module _ (low : (InIb s → ⊥) → p.get ≤ s.limit) (lent : p.get / 4 < length ws) where
     pub awaits_count : p.run.awaited ≡ true → word_role s p ws ≡ counts
-    unfolding word_role
-    awaits_count a = choose_false (readable.1 (low, lent)) _ _ ∙ choose_true a _ _
+    unfolding word_role choose
+    awaits_count a = grind (arith, nat_tests)
 
     module _ (a : p.run.awaited ≡ false) where
       pub inside_run : (p.run.count ≡ 0 → ⊥) → word_role s p ws ≡ submits
-      unfolding word_role
-      inside_run n = choose_false (readable.1 (low, lent)) _ _ ∙ choose_false a _ _ ∙ choose_true (ap not (ne_eqb _ _ n)) _ _
+      unfolding word_role choose
+      inside_run n = grind (arith, nat_tests)
 
       pub between_runs : p.run.count ≡ 0 → word_role s p ws ≡ commands
-      unfolding word_role
-      between_runs n = choose_false (readable.1 (low, lent)) _ _ ∙ choose_false a _ _ ∙ choose_false (ap not (eq-eqb _ _ n)) _ _
+      unfolding word_role choose
+      between_runs n = grind (arith, nat_tests)
 
 -- where an entry is
 module _ (p : Pusher) (es : List ℕ) where
   pub past_entries : length es ≤ p.ib.get → entry_role p es ≡ faults
-  unfolding entry_role
-  past_entries h = choose_true (le-leb _ _ h) _ _
+  unfolding entry_role choose
+  past_entries h = grind (arith, nat_tests)
 
   pub at_entry_lem : p.ib.get < length es → entry_role p es ≡ enters
-  unfolding entry_role
-  at_entry_lem h = choose_false (lt-leb _ _ h) _ _
+  unfolding entry_role choose
+  at_entry_lem h = grind (arith, nat_tests)
 
 -- and which of the two it is, or neither
 module _ (s : Setup) (p : Pusher) (l : PusherLoan) where
@@ -76,22 +65,21 @@ module _ (s : Setup) (p : Pusher) (l : PusherLoan) where
 
   module _ (runs : halts p.error ≡ false) where
     pub when_words : (p.get ≡ p.put → ⊥) → role s p l ≡ word_role s p l.words
-    unfolding role
-    when_words n = choose_false runs _ _ ∙ choose_true (ap not (ne_eqb _ _ n)) _ _
+    unfolding role choose
+    when_words n = grind (arith, nat_tests)
 
     module _ (equal : p.get ≡ p.put) where
-      without_words : role s p l ≡ choose (eqb s.setting.mode.number 1 && not (eqb p.ib.get p.ib.put)) (entry_role p l.entries) idles
-      unfolding role
-      without_words = choose_false runs _ _ ∙ choose_false (ap not (eq-eqb _ _ equal)) _ _
-
       pub without_ib : (s.setting.mode.number ≡ 1 → ⊥) → role s p l ≡ idles
-      without_ib n = without_words ∙ choose_false (rw (ne_eqb _ _ n)) _ _
+      unfolding role choose
+      without_ib n = grind (arith, nat_tests)
 
       pub without_entries : p.ib.get ≡ p.ib.put → role s p l ≡ idles
-      without_entries e = without_words ∙ choose_false (rw (eq-eqb _ _ e, and-false)) _ _
+      unfolding role choose
+      without_entries e = grind (arith, nat_tests)
 
       pub when_entries : s.setting.mode.number ≡ 1 → (p.ib.get ≡ p.ib.put → ⊥) → role s p l ≡ entry_role p l.entries
-      when_entries m n = without_words ∙ choose_true (rw (eq-eqb _ _ m, ne_eqb _ _ n)) _ _
+      unfolding role choose
+      when_entries m n = grind (arith, nat_tests)
 
 -- the word that is read, and the entry that comes next
 pub record AtWord (s : Setup) (p : Pusher) (l : PusherLoan) : Type 0 where
@@ -115,10 +103,6 @@ Facts s p l submits = (halts p.error ≡ false) × AtWord s p l × (p.run.awaite
 Facts s p l commands = (halts p.error ≡ false) × AtWord s p l × (p.run.awaited ≡ false) × (p.run.count ≡ 0)
 Facts s p l enters = (halts p.error ≡ false) × AtEntry s p × (p.ib.get < length l.entries)
 Facts s p l idles = (halts p.error ≡ false) × (p.get ≡ p.put) × ((s.setting.mode.number ≡ 1 → ⊥) ⊎ (p.ib.get ≡ p.ib.put))
-
-not_both : (a b : Bool) → a && b ≡ false → (a ≡ false) ⊎ (b ≡ false)
-not_both true b e = inr e
-not_both false b e = inl refl
 
 module _ (s : Setup) (p : Pusher) (l : PusherLoan) where
   module _ (runs : halts p.error ≡ false) where
@@ -148,4 +132,4 @@ module _ (s : Setup) (p : Pusher) (l : PusherLoan) where
       let equal = eqb-true _ _ (not-false _ n) in
       by_test (Facts s p l)
       (λ b. let t = both ib new b in entry_facts runs (record { equal = equal; ib = eqb-true _ _ t.0; unequal = eqb-false _ _ (not-true _ t.1) }))
-      (λ b. (runs, equal, ⊎_elim (λ f. inl (eqb-false _ _ f)) (λ f. inr (eqb-true _ _ (not-false _ f))) (not_both ib new b)))))
+      (λ b. (runs, equal, ⊎_elim (λ f. inl (eqb-false _ _ f)) (λ f. inr (eqb-true _ _ (not-false _ f))) (and_cases ib new b)))))

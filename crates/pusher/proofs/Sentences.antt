@@ -1,25 +1,25 @@
 -- What a move does where each of the sentences applies. Assumes nothing.
 use Prim.Native.Nat.{ℕ, ◌+◌, ◌/◌, ◌%◌, ◌^◌}
-use mathlib.Core.Path.{◌≡◌, refl, sym, ap, ap₂, ◌∙◌}
-use mathlib.Core.Bool.{Bool, true, false, not, ◌&&◌, and-false, false≢true}
+use mathlib.Core.Path.{◌≡◌, sym, ap, ◌∙◌}
+use mathlib.Core.Bool.{Bool, true, false, not, ◌&&◌}
 use native.Mathlib.Omega.{arith}
-use lib.Dec.{eqb, ltb}
 use mathlib.Core.List.{List}
-use mathlib.Core.Logic.{◌⊎◌, ⊎_elim}
-use borrow.Author.Tests.{eq-eqb, ne_eqb, eqb-true, eqb-false, ltb-true, ltb-false}
+use mathlib.Core.Logic.{◌⊎◌}
+use Rattle.std.specs.Prelude.{Option}
+use Rattle.std.proofs.lemmas.Bool.Decides.{nat_tests}
 use Rattle.word.specs.First.{choose}
 use Rattle.word.specs.Parts.{numbers_in}
 use Rattle.word.specs.Special.{present_of}
 use Rattle.word.specs.Reading as reading
 use Rattle.word.specs.declared.reading.Reading.{Reading}
-use Rattle.word.proofs.First.{one_outcome, choose_true, choose_false, by_test}
+use Rattle.word.proofs.First.{one_outcome}
 use Rattle.word.proofs.Told.{told_unreserved}
 use Rattle.event.specs.declared.Kind.TheVariants as kind
 use Rattle.event.specs.declared.Event.TheVariants.{Of}
 use Rattle.pusher.specs.Loan.{PusherLoan}
-use Rattle.pusher.specs.Record.{number, halts, with_get, with_run, with_main, with_ib}
+use Rattle.pusher.specs.Record.{number, halts, with_run, with_ib}
 use Rattle.pusher.specs.Entry.{parts, entry_of}
-use Rattle.pusher.specs.Moving.{Role, counts, submits, commands, enters, word_role, role, act, push_of, follows, advanced, counted, quietly, failed_by, parameter_of, used_up, rises, method_of, commanded, next_index, entered, prepared}
+use Rattle.pusher.specs.Moving.{Role, counts, submits, commands, enters, word_role, role, act, push_of, advanced, counted, quietly, failed_by, parameter_of, used_up, rises, method_of, commanded, next_index, entered, prepared}
 use Rattle.pusher.specs.Promises.{ReadsWord, ReadsCount, ReadsParameter, ReadsCommand, IsWord, Past, ParameterRead, CommandRead, Rises, less_one, IndexRises, EntryRead, address_in, size_in, at_entry}
 use Rattle.pusher.specs.declared.record.Setup.{Setup}
 use Rattle.pusher.specs.declared.record.Run.{Run}
@@ -31,49 +31,23 @@ use Rattle.pusher.proofs.PastWord.{advanced_only}
 use Rattle.pusher.proofs.Roles.{awaits_count, inside_run, between_runs, when_words, when_entries, at_entry_lem}
 
 -- an error's number says whether it halts
-pub runs : (e : PusherError) → number e ≡ 0 → halts e ≡ false
+pub runs : (e : Option PusherError) → number e ≡ 0 → halts e ≡ false
 unfolding halts
-runs e h = ap not (eq-eqb _ _ h)
+runs e h = grind (arith, nat_tests)
 
-pub stands : (e : PusherError) → (number e ≡ 0 → ⊥) → halts e ≡ true
+pub stands : (e : Option PusherError) → (number e ≡ 0 → ⊥) → halts e ≡ true
 unfolding halts
-stands e n = ap not (ne_eqb _ _ n)
+stands e n = grind (arith, nat_tests)
 
 -- the pusher past a word, by the definition and in plain terms
 module _ (s : Setup) (p : Pusher) where
-  follow : follows s p ≡ true → advanced s p ≡ with_main (with_get p (p.get + 4)) (record { nonmain = p.main.nonmain; mget = p.get + 4; valid = true })
-  unfolding advanced
-  follow e = choose_true e _ _
-
-  leave : follows s p ≡ false → advanced s p ≡ with_get p (p.get + 4)
-  unfolding advanced
-  leave e = choose_false e _ _
-
-  -- dma_mget follows in IB mode, where the words are main
-  outside_ib : eqb s.setting.mode.number 1 ≡ false → follows s p ≡ false
-  outside_ib e = ap (λ (ib : Bool). ib && not p.main.nonmain) e
-
-  outside_main : p.main.nonmain ≡ true → follows s p ≡ false
-  outside_main f = rw (f, and-false)
-
-  in_main : eqb s.setting.mode.number 1 ≡ true → p.main.nonmain ≡ false → follows s p ≡ true
-  in_main e f = ap₂ (λ (ib nonmain : Bool). ib && not nonmain) e f
-
   pub past_is : (q : Pusher) → Past s p q → q ≡ advanced s p
-  past_is q h = go (eqb s.setting.mode.number 1) p.main.nonmain refl refl
-    where
-      go : (a b : Bool) → eqb s.setting.mode.number 1 ≡ a → p.main.nonmain ≡ b → q ≡ advanced s p
-      go true true e f = h.not_main f ∙ sym (leave (outside_main f))
-      go true false e f = h.main (eqb-true _ _ e) f ∙ (rw f) ∙ sym (follow (in_main e f))
-      go false b e f = h.nv04_style (eqb-false _ _ e) ∙ sym (leave (outside_ib e))
+  unfolding advanced choose
+  past_is q h = grind (arith, nat_tests)
 
   pub past_of : Past s p (advanced s p)
-  past_of =
-      record {
-        nv04_style = λ n. leave (outside_ib (ne_eqb _ _ n));
-        not_main = λ f. leave (outside_main f);
-        main = λ m f. follow (in_main (eq-eqb _ _ m) f) ∙ rw f;
-      }
+  unfolding advanced choose
+  past_of = record { nv04_style = λ n. grind (arith, nat_tests); not_main = λ f. grind (arith, nat_tests); main = λ m f. grind (arith, nat_tests) }
 
   -- it has the read address four higher, and the same run, subroutine and SLI
   pub record Keeps (q : Pusher) : Type 0 where
@@ -130,42 +104,38 @@ module _ (s : Setup) (p : Pusher) (l : PusherLoan) where
 -- a parameter
 module _ (s : Setup) (q : Pusher) (w : ℕ) where
   pub non_cache_is : present_of s.setting.level.number q.run.method ≡ false → parameter_of s q w ≡ failed_by q cause.NonCache
-  unfolding parameter_of
-  non_cache_is e = choose_true (rw e) _ _
+  unfolding parameter_of choose
+  non_cache_is e = grind arith
 
   module _ (e : present_of s.setting.level.number q.run.method ≡ true) where
     pub discard_is : s.setting.sli ≡ true → q.sli.active ≡ false → parameter_of s q w ≡ record { pusher = used_up q; did = did.Event (Of kind.Discard (method_of q w)) }
-    unfolding parameter_of
-    discard_is on off = choose_false (rw e) _ _ ∙ choose_true (rw (on, off)) _ _
+    unfolding parameter_of choose
+    discard_is on off = grind arith
 
     pub submit_is : (s.setting.sli && not q.sli.active) ≡ false → parameter_of s q w ≡ record { pusher = used_up q; did = did.Submit (method_of q w) }
-    unfolding parameter_of
-    submit_is f = choose_false (rw e) _ _ ∙ choose_false f _ _
+    unfolding parameter_of choose
+    submit_is f = grind arith
 
 -- SLI off, or active
 pub taken : (on active : Bool) → (on ≡ false) ⊎ (active ≡ true) → (on && not active) ≡ false
-taken false active h = refl
-taken true true h = refl
-taken true false h = absurd (⊎_elim (λ e. false≢true (sym e)) (λ e. false≢true e) h)
+taken on active h = grind arith
 
 -- the method after a parameter
 rises_is : (q : Pusher) (n : ℕ) → Rises q.run n → rises q ≡ n
-rises_is q n h = by_test (λ (x : ℕ). x ≡ n) (λ e. sym (h.increasing e)) (λ e. sym (h.other e))
+unfolding choose
+rises_is q n h = grind arith
 
 pub rises_of : (r : Run) → Rises r (choose r.increasing ((r.method + 1) % 2048) r.method)
-rises_of r = record { increasing = λ e. choose_true e _ _; other = λ e. choose_false e _ _ }
+unfolding choose
+rises_of r = record { increasing = λ e. grind arith; other = λ e. grind arith }
 
 pub used_up_is : (q : Pusher) (r : Run) (n : ℕ) → q.run ≡ r → Rises r n → used_up q ≡ with_run q (less_one r n)
 used_up_is q r n e h = rw (rises_is q n (rw e h), e)
 
 -- the ring of entries
 pub rises_to : (s : Setup) (p : Pusher) (i : ℕ) → IndexRises s p i → next_index s.order p.ib.get ≡ i
-unfolding next_index
-rises_to s p i h = go (ltb 12 s.order) refl
-  where
-    go : (b : Bool) → ltb 12 s.order ≡ b → (p.ib.get + 1) % 2 ^ choose (ltb 12 s.order) 12 s.order ≡ i
-    go true e = rw (choose_true e 12 s.order) (sym (h.over (ltb-true _ _ e)))
-    go false e = rw (choose_false e 12 s.order) (sym (h.within (ltb-false _ _ e)))
+unfolding next_index choose
+rises_to s p i h = grind (arith, nat_tests)
 
 -- an entry that is there
 module _ (s : Setup) (p : Pusher) (l : PusherLoan) (e i : ℕ) (h : EntryRead s p l e i) where
@@ -177,25 +147,15 @@ module _ (s : Setup) (p : Pusher) (l : PusherLoan) (e i : ℕ) (h : EntryRead s 
       ∙ rw (rises_to s p i h.rises, h.entry)
 
 module _ (p : Pusher) (e : ℕ) where
-  prepared_not_main : e / 2 ^ 41 % 2 ≡ 1 → prepared p (entry_of e) ≡ at_entry p e true p.main.mget
-  unfolding prepared entry_of parts numbers_in choose
-  prepared_not_main b = rw (eq-eqb _ _ b)
-
-  prepared_main : e / 2 ^ 41 % 2 ≡ 0 → prepared p (entry_of e) ≡ at_entry p e false (address_in e)
-  unfolding prepared entry_of parts numbers_in choose
-  prepared_main b = rw (ne_eqb (e / 2 ^ 41 % 2) 1 (omega arith))
-
   pub empty_is : size_in e ≡ 0 → entered p (entry_of e) ≡ failed_by p cause.Ib
-  unfolding entered entry_of parts numbers_in
-  empty_is z = choose_true (eq-eqb _ _ z) _ _
+  unfolding entered entry_of parts numbers_in choose
+  empty_is z = grind (arith, nat_tests)
 
   module _ (some : size_in e ≡ 0 → ⊥) where
-    filled : entered p (entry_of e) ≡ quietly (prepared p (entry_of e)) kind.Entry
-    unfolding entered entry_of parts numbers_in
-    filled = choose_false (ne_eqb _ _ some) _ _
-
     pub not_main_is : e / 2 ^ 41 % 2 ≡ 1 → entered p (entry_of e) ≡ quietly (at_entry p e true p.main.mget) kind.Entry
-    not_main_is b = filled ∙ rw (prepared_not_main b)
+    unfolding entered prepared entry_of parts numbers_in choose
+    not_main_is b = grind (arith, nat_tests)
 
     pub main_is : e / 2 ^ 41 % 2 ≡ 0 → entered p (entry_of e) ≡ quietly (at_entry p e false (address_in e)) kind.Entry
-    main_is b = filled ∙ rw (prepared_main b)
+    unfolding entered prepared entry_of parts numbers_in choose
+    main_is b = grind (arith, nat_tests)

@@ -6,6 +6,7 @@ use mathlib.Core.Logic.{◌⊎◌, inl, inr, ⊎_elim, ◌↔◌}
 use mathlib.Core.Option.{none, some, none-ne-some}
 use native.Mathlib.Omega.{arith}
 use lib.ListN.{get_or}
+use Rattle.std.specs.Prelude.{Option, None, Some}
 use Rattle.word.specs.Why.{why_number, why_of}
 use Rattle.word.specs.declared.why.Why.{Why}
 use Rattle.word.proofs.Told.{why_with}
@@ -52,46 +53,46 @@ unfolding did_number did_values
 submit_did h = rw h (record { number = refl; values = refl })
 
 -- an error by its number and why: it stands in the list with its own why, or, where it has none, with any
-pub error_stands : (e : PusherError) (y : Why) → (why e ≡ none) ⊎ (why e ≡ some (why_number y)) → get_or (error_list y) (number e) none ≡ some e
+pub error_stands : (e : Option PusherError) (y : Why) → (why e ≡ none) ⊎ (why e ≡ some (why_number y)) → get_or (error_list y) (number e) none ≡ some e
 unfolding number why
-error_stands cause.None y h = refl
-error_stands cause.Call y h = refl
-error_stands cause.NonCache y h = refl
-error_stands cause.Return y h = refl
-error_stands (cause.ReservedCmd z) y h =
-    ⊎_elim (λ e. absurd (none-ne-some (why_number z) (sym e))) (λ e. ap (λ (x : Why). some (cause.ReservedCmd x)) (sym (why_with y) ∙ ap why_of (sym e) ∙ why_with z)) h
-error_stands cause.Ib y h = refl
-error_stands cause.Protection y h = refl
+error_stands None y h = refl
+error_stands (Some cause.Call) y h = refl
+error_stands (Some cause.NonCache) y h = refl
+error_stands (Some cause.Return) y h = refl
+error_stands (Some (cause.ReservedCmd z)) y h =
+    ⊎_elim (λ e. absurd (none-ne-some (why_number z) (sym e))) (λ e. ap (λ (x : Why). some (Some (cause.ReservedCmd x))) (sym (why_with y) ∙ ap why_of (sym e) ∙ why_with z)) h
+error_stands (Some cause.Ib) y h = refl
+error_stands (Some cause.Protection) y h = refl
 
-own_why : (e : PusherError) → (why e ≡ none) ⊎ (why e ≡ some (why_number (why_of (why e))))
+own_why : (e : Option PusherError) → (why e ≡ none) ⊎ (why e ≡ some (why_number (why_of (why e))))
 unfolding why
-own_why cause.None = inl refl
-own_why cause.Call = inl refl
-own_why cause.NonCache = inl refl
-own_why cause.Return = inl refl
-own_why (cause.ReservedCmd y) = inr (ap (λ (x : Why). some (why_number x)) (sym (why_with y)))
-own_why cause.Ib = inl refl
-own_why cause.Protection = inl refl
+own_why None = inl refl
+own_why (Some cause.Call) = inl refl
+own_why (Some cause.NonCache) = inl refl
+own_why (Some cause.Return) = inl refl
+own_why (Some (cause.ReservedCmd y)) = inr (ap (λ (x : Why). some (why_number x)) (sym (why_with y)))
+own_why (Some cause.Ib) = inl refl
+own_why (Some cause.Protection) = inl refl
 
-pub error_numbered : (e : PusherError) → get_or (error_list (why_of (why e))) (number e) none ≡ some e
+pub error_numbered : (e : Option PusherError) → get_or (error_list (why_of (why e))) (number e) none ≡ some e
 error_numbered e = error_stands e (why_of (why e)) (own_why e)
 
-pub error_told : (d e : PusherError) → number d ≡ number e → why d ≡ why e → d ≡ e
+pub error_told : (d e : Option PusherError) → number d ≡ number e → why d ≡ why e → d ≡ e
 error_told d e n y =
     let same : some d ≡ some e = sym (error_numbered d) ∙ rw (n, y) (error_numbered e) in
     cc
 
 -- 4 has a why, and no other has
-pub error_why : (e : PusherError) → why e ≡ none ↔ (number e ≡ 4 → ⊥)
+pub error_why : (e : Option PusherError) → why e ≡ none ↔ (number e ≡ 4 → ⊥)
 unfolding number why
-error_why cause.None = (λ h n. omega arith, λ h. refl)
-error_why cause.Call = (λ h n. omega arith, λ h. refl)
-error_why cause.NonCache = (λ h n. omega arith, λ h. refl)
-error_why cause.Return = (λ h n. omega arith, λ h. refl)
-error_why (cause.ReservedCmd y) = (λ h n. none-ne-some (why_number y) (sym h), λ h. absurd (h refl))
-error_why cause.Ib = (λ h n. omega arith, λ h. refl)
-error_why cause.Protection = (λ h n. omega arith, λ h. refl)
+error_why None = (λ h n. omega arith, λ h. refl)
+error_why (Some cause.Call) = (λ h n. omega arith, λ h. refl)
+error_why (Some cause.NonCache) = (λ h n. omega arith, λ h. refl)
+error_why (Some cause.Return) = (λ h n. omega arith, λ h. refl)
+error_why (Some (cause.ReservedCmd y)) = (λ h n. none-ne-some (why_number y) (sym h), λ h. absurd (h refl))
+error_why (Some cause.Ib) = (λ h n. omega arith, λ h. refl)
+error_why (Some cause.Protection) = (λ h n. omega arith, λ h. refl)
 
 -- so that any other is told by its number
-pub other_told : (d e : PusherError) → number d ≡ number e → (number e ≡ 4 → ⊥) → d ≡ e
+pub other_told : (d e : Option PusherError) → number d ≡ number e → (number e ≡ 4 → ⊥) → d ≡ e
 other_told d e n h = error_told d e n ((error_why d).1 (λ k. h (sym n ∙ k)) ∙ sym ((error_why e).1 h))

@@ -1,5 +1,5 @@
 -- The contracts of the public functions, each as a predicate over inputs and answer.
-use Rattle.std.specs.Prelude.{ℕ, ◌≡◌, Bool}
+use Rattle.std.specs.Prelude.{ℕ, ◌≡◌, Bool, Option}
 use Rattle.pusher.specs.Record.{number, halts}
 use Rattle.pusher.specs.Loan.{PusherLoan}
 use Rattle.pusher.specs.Moving.{push_of}
@@ -8,8 +8,8 @@ use Rattle.pusher.specs.declared.record.PusherError.{PusherError}
 use Rattle.pusher.specs.declared.record.Pusher.{Pusher}
 use Rattle.pusher.specs.declared.moving.Pushed.{Pushed}
 
--- `PusherError::number` and `Pusher::stopped`
-abbrev pub Numbers : PusherError → ℕ → Type 0
+-- `PusherError::number`, `error_number` and `Pusher::stopped`
+abbrev pub Numbers : Option PusherError → ℕ → Type 0
 Numbers e r = r ≡ number e
 
 abbrev pub Halts : Pusher → Bool → Type 0

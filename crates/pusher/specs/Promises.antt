@@ -1,6 +1,7 @@
 -- The promises about a move of the pusher, each a statement that is proved under its own name in proofs/. They speak of `push`
 -- through its contract (Outcomes.antt): of everything that it allows.
-use Rattle.std.specs.Prelude.{ℕ, ◌+◌, ◌-◌, ◌*◌, ◌/◌, ◌%◌, ◌^◌, ◌≤◌, ◌<◌, ◌≡◌, Bool, true, false, List, [], ◌∷◌, map, ◌⊎◌, ◌↔◌, length, get_or}
+use Rattle.std.specs.Prelude as std
+use Rattle.std.specs.Prelude.{ℕ, ◌+◌, ◌-◌, ◌*◌, ◌/◌, ◌%◌, ◌^◌, ◌≤◌, ◌<◌, ◌≡◌, Bool, true, false, List, [], ◌∷◌, map, ◌⊎◌, ◌↔◌, length, get_or, None, Some}
 use Rattle.std.proofs.Math.Option.{Option, none, some}
 use Rattle.word.specs.Outcomes.{Reads, Presents}
 use Rattle.word.specs.Why.{why_number}
@@ -371,14 +372,15 @@ pub record Failing : Type 0 where
   pub protection : (s : Setup) (p : Pusher) (l : PusherLoan) (r : Pushed) → Moves s p l r → Running p → number r.pusher.error ≡ 6 → Fails p 6 r
 
 -- S26: the errors in order, after none, RESERVED_CMD with a why.
-abbrev pub error_list : Why → List (Option PusherError)
-error_list y = map some (cause.None ∷ cause.Call ∷ cause.NonCache ∷ cause.Return ∷ cause.ReservedCmd y ∷ cause.Ib ∷ cause.Protection ∷ [])
+abbrev pub error_list : Why → List (Option (std.Option PusherError))
+error_list y =
+    map some (None ∷ map Some (cause.Call ∷ cause.NonCache ∷ cause.Return ∷ cause.ReservedCmd y ∷ cause.Ib ∷ cause.Protection ∷ []))
 
 -- S26, S33, S4: every error stands there, by its number, whatever the why if it has none, and else with its own; 4 has one, and no
 -- other has; and `stopped` says so of each, and of none it does not
 pub record Errors : Type 0 where
-  pub numbers : (e : PusherError) (y : Why) → (why e ≡ none) ⊎ (why e ≡ some (why_number y)) → get_or (error_list y) (number e) none ≡ some e
-  pub whys : (e : PusherError) → why e ≡ none ↔ (number e ≡ 4 → ⊥)
+  pub numbers : (e : std.Option PusherError) (y : Why) → (why e ≡ none) ⊎ (why e ≡ some (why_number y)) → get_or (error_list y) (number e) none ≡ some e
+  pub whys : (e : std.Option PusherError) → why e ≡ none ↔ (number e ≡ 4 → ⊥)
   pub stopped : (p : Pusher) (a : Bool) → Halts p a → a ≡ true ↔ (Running p → ⊥)
 
 -- The pusher, or its run, with one thing changed, as the sentences say it: that and nothing else.
@@ -405,7 +407,7 @@ Lends = (ws es : List ℕ) → to_pusher ws es ≡ record { words = ws; entries 
 -- Each contract leaves one outcome.
 pub record One : Type 0 where
   pub push : (s : Setup) (p : Pusher) (l : PusherLoan) (a b : Pushed) → Moves s p l a → Moves s p l b → a ≡ b
-  pub number : (e : PusherError) (a b : ℕ) → Numbers e a → Numbers e b → a ≡ b
+  pub number : (e : std.Option PusherError) (a b : ℕ) → Numbers e a → Numbers e b → a ≡ b
   pub stopped : (p : Pusher) (a b : Bool) → Halts p a → Halts p b → a ≡ b
 
 -- E1: an entry to try.

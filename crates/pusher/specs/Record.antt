@@ -1,5 +1,6 @@
 -- The pusher's record: its errors' numbers, and the record, or its run, with one thing changed.
-use Rattle.std.specs.Prelude.{ℕ, Bool, not, eqb}
+use Rattle.std.specs.Prelude as std
+use Rattle.std.specs.Prelude.{ℕ, Bool, not, eqb, None, Some}
 use Rattle.std.proofs.Math.Option.{Option, none, some}
 use Rattle.word.specs.Why.{why_number}
 use Rattle.pusher.specs.declared.record.PusherError.{PusherError}
@@ -9,32 +10,32 @@ use Rattle.pusher.specs.declared.record.Main.{Main}
 use Rattle.pusher.specs.declared.record.Pusher.{Pusher}
 
 -- S26: the errors' numbers; 0 is none
-unfoldable pub number : PusherError → ℕ
-number cause.None = 0
-number cause.Call = 1
-number cause.NonCache = 2
-number cause.Return = 3
-number (cause.ReservedCmd y) = 4
-number cause.Ib = 5
-number cause.Protection = 6
+unfoldable pub number : std.Option PusherError → ℕ
+number None = 0
+number (Some cause.Call) = 1
+number (Some cause.NonCache) = 2
+number (Some cause.Return) = 3
+number (Some (cause.ReservedCmd y)) = 4
+number (Some cause.Ib) = 5
+number (Some cause.Protection) = 6
 
 -- S33: the number of its why, which RESERVED_CMD alone has
-unfoldable pub why : PusherError → Option ℕ
-why cause.None = none
-why cause.Call = none
-why cause.NonCache = none
-why cause.Return = none
-why (cause.ReservedCmd y) = some (why_number y)
-why cause.Ib = none
-why cause.Protection = none
+unfoldable pub why : std.Option PusherError → Option ℕ
+why None = none
+why (Some cause.Call) = none
+why (Some cause.NonCache) = none
+why (Some cause.Return) = none
+why (Some (cause.ReservedCmd y)) = some (why_number y)
+why (Some cause.Ib) = none
+why (Some cause.Protection) = none
 
 -- S4, S27: an error stops the pusher
-unfoldable pub halts : PusherError → Bool
+unfoldable pub halts : std.Option PusherError → Bool
 halts e = not (eqb (number e) 0)
 
 -- S27: the error is stored, and nothing else with it
 abbrev pub with_error : Pusher → PusherError → Pusher
-with_error p e = record { get = p.get; put = p.put; run = p.run; subroutine = p.subroutine; ib = p.ib; main = p.main; sli = p.sli; error = e }
+with_error p e = record { get = p.get; put = p.put; run = p.run; subroutine = p.subroutine; ib = p.ib; main = p.main; sli = p.sli; error = Some e }
 
 -- the record, or its run, with another number or flag and all else as it was
 abbrev pub with_get : Pusher → ℕ → Pusher

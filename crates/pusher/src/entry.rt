@@ -10,12 +10,15 @@ pub(crate) struct Entry {
     pub nonmain: bool,
 }
 
-pub(crate) fn entry_of(entry: u64) -> Entry
-    ensures { result ≡ entry_of entry }
-{
-    Entry {
-        address: ((entry >> 2) & 0x3f_ffff_ffff) << 2,
-        size: entry >> 42,
-        nonmain: (entry >> 41) & 1 == 1,
+impl From<u64> for Entry {
+    ghost from_gives = { λ entry result. result ≡ entry_of entry };
+
+    #[tactic(auto, using(crate::proofs::Entries::entry_by_masks))]
+    fn from(entry: u64) -> Entry {
+        Entry {
+            address: ((entry >> 2) & 0x3f_ffff_ffff) << 2,
+            size: entry >> 42,
+            nonmain: (entry >> 41) & 1 == 1,
+        }
     }
 }

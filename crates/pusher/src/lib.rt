@@ -6,4 +6,4 @@ mod moving;
 mod record;
 
 pub use moving::{Did, Pushed, push};
-pub use record::{Ib, Main, Pusher, PusherError, Run, Setup, Sli, Subroutine};
+pub use record::{Ib, Main, Pusher, PusherError, Run, Setup, Sli, Subroutine, error_number};

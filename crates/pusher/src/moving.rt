@@ -1,12 +1,11 @@
 // One move of the pusher.
 ghost use Rattle.std.specs.Prelude.{◌≡◌, ◌+◌, ◌≤◌, ◌<◌};
-ghost use Rattle.word.specs.Reading.{number, read_of};
 ghost use Rattle.word.specs.Promises.{Within};
 ghost use Rattle.pusher.specs.Loan.{PusherLoan, to_pusher, with_words, with_entries};
-ghost use Rattle.pusher.specs.Moving.{word_role, entry_role, act, quietly, failed_by, advanced, counted, parameter_of, used_up, commanded, begun, conditional, jumped, called, returned, next_index, prepared};
+ghost use Rattle.pusher.specs.Moving.{word_role, entry_role, act, quietly, failed_by, advanced, counted, parameter_of, used_up, commanded, awaiting, begun, conditional, jumped, called, returned, next_index, prepared};
 ghost use Rattle.pusher.specs.Outcomes.{Moves};
 
-use crate::entry::{Entry, entry_of};
+use crate::entry::Entry;
 use crate::record::{Pusher, PusherError, Setup};
 use event::{Event, Kind, Method};
 use word::{Mode, Reading, Why, present, read};
@@ -26,301 +25,269 @@ pub struct Pushed {
 
 // Reads one word where the read address is not put, else one IB entry where there is one; stopped
 // by its error, or idle, it changes nothing. A setting that is refused has reserved words only.
+#[tactic(auto, unfolding(crate::specs::Moving::push_of, crate::specs::Moving::role, crate::specs::Moving::act, word::specs::First::choose))]
 pub fn push(setup: Setup, pusher: Pusher, words: &[u32], entries: &[u64]) -> Pushed
     ensures { Moves setup pusher (to_pusher words.now entries.now) result }
 {
     if pusher.stopped() {
-        return quiet(pusher, Kind::Stopped);
+        return pusher.quiet(Kind::Stopped);
     }
     if pusher.get != pusher.put {
-        return word(setup, pusher, words);
+        return pusher.word(setup, words);
     }
-    if setup.setting.mode.number != Mode::IB.number {
-        return quiet(pusher, Kind::Idle);
+    if setup.setting.mode != Mode::IB || pusher.ib.get == pusher.ib.put {
+        return pusher.quiet(Kind::Idle);
     }
-    if pusher.ib.get == pusher.ib.put {
-        return quiet(pusher, Kind::Idle);
-    }
-    entry(setup, pusher, entries)
+    pusher.entry(setup, entries)
 }
 
-fn quiet(pusher: Pusher, kind: Kind) -> Pushed
-    ensures { result ≡ quietly pusher kind }
-{
-    Pushed {
-        pusher,
-        did: Did::Event {
-            event: Event::Plain { kind },
-        },
-    }
-}
-
-fn failed(pusher: Pusher, error: PusherError) -> Pushed
-    ensures { result ≡ failed_by pusher error }
-{
-    quiet(pusher.with_error(error), Kind::Error)
-}
-
-// Reads the word at the read address, unless that is above the limit, which counts in NV04-style
-// alone, or beyond the lent words, whatever else is lent.
-fn word(setup: Setup, pusher: Pusher, words: &[u32]) -> Pushed
-    ensures { (l : PusherLoan) → result ≡ act setup pusher (with_words l words.now) (word_role setup pusher words.now) }
-{
-    let get = pusher.get;
-    let mode = setup.setting.mode.number;
-    if mode != Mode::IB.number && (setup.limit as u64) < get {
-        return failed(pusher, PusherError::Protection);
-    }
-    let place = (get / 4) as usize;
-    if words.len() <= place {
-        return failed(pusher, PusherError::Protection);
-    }
-    let word = words[place];
-    let next = advance(setup, pusher);
-    if pusher.run.awaited {
-        return count(next, word);
-    }
-    if pusher.run.count != 0 {
-        return parameter(setup, next, word);
-    }
-    command(setup, next, word)
-}
-
-// The advance (S11), which can't overflow behind a lent word; in IB mode dma_mget follows it where the
-// words are main (S12).
-#[tactic(auto, unfolding(crate::specs::Moving::advanced, word::specs::First::choose))]
-fn advance(setup: Setup, pusher: Pusher) -> Pusher
-    requires { pusher.get + 4 ≤ 0xffffffffffffffff }
-    ensures { result ≡ advanced setup pusher }
-{
-    let past = pusher.get + 4;
-    let mut next = pusher;
-    next.get = past;
-    let mode = setup.setting.mode.number;
-    if mode != Mode::IB.number {
-        return next;
-    }
-    if pusher.main.nonmain {
-        return next;
-    }
-    next.main.mget = past;
-    next.main.valid = true;
-    next
-}
-
-// A long form's count: the low 24 bits.
-#[tactic(auto, unfolding(crate::specs::Moving::counted))]
-fn count(pusher: Pusher, word: u32) -> Pushed
-    ensures { result ≡ counted pusher word }
-{
-    let count = word & 0xff_ffff;
-    let mut next = pusher;
-    next.run.count = count;
-    next.run.awaited = false;
-    quiet(next, Kind::Count)
-}
-
-// A parameter: submits its method, or discards it where SLI says that it is not for this card. NON_CACHE
-// comes before that, and uses up neither count nor method.
-fn parameter(setup: Setup, pusher: Pusher, word: u32) -> Pushed
-    requires { 1 ≤ pusher.run.count }
-    ensures { result ≡ parameter_of setup pusher word }
-{
-    let number = pusher.run.method as u32;
-    let method = Method {
-        subchannel: pusher.run.subchannel,
-        method: 4 * number,
-        parameter: word,
-    };
-    let level = setup.setting.level;
-    if !present(level, number) {
-        return failed(pusher, PusherError::NonCache);
-    }
-    let next = used_up(pusher);
-    if setup.setting.sli && !pusher.sli.active {
-        return Pushed {
-            pusher: next,
+impl Pusher {
+    fn quiet(self, kind: Kind) -> Pushed
+        ensures { result ≡ quietly self kind }
+    {
+        Pushed {
+            pusher: self,
             did: Did::Event {
+                event: Event::Plain { kind },
+            },
+        }
+    }
+
+    fn failed(self, error: PusherError) -> Pushed
+        ensures { result ≡ failed_by self error }
+    {
+        self.with_error(error).quiet(Kind::Error)
+    }
+
+    // Reads the word at the read address, unless that is above the limit, which counts in NV04-style
+    // alone, or beyond the lent words, whatever else is lent.
+    #[tactic(auto, using(word::proofs::Promises::widths), unfolding(crate::specs::Moving::act, crate::specs::Moving::word_role, crate::specs::Moving::advanced, word::specs::First::choose))]
+    fn word(self, setup: Setup, words: &[u32]) -> Pushed
+        ensures { (l : PusherLoan) → result ≡ act setup self (with_words l words.now) (word_role setup self words.now) }
+    {
+        if setup.setting.mode != Mode::IB && (setup.limit as u64) < self.get {
+            return self.failed(PusherError::Protection);
+        }
+        let Some(&word) = words.get((self.get / 4) as usize) else {
+            return self.failed(PusherError::Protection);
+        };
+        let next = self.advance(setup);
+        if self.run.awaited {
+            return next.count(word);
+        }
+        if self.run.count != 0 {
+            return next.parameter(setup, word);
+        }
+        next.command(read(setup.setting, word, 0))
+    }
+
+    // The advance (S11), which can't overflow behind a lent word; in IB mode dma_mget follows it where the
+    // words are main (S12).
+    #[tactic(auto, unfolding(crate::specs::Moving::advanced, word::specs::First::choose))]
+    fn advance(mut self, setup: Setup) -> Pusher
+        requires { self.get + 4 ≤ 0xffffffffffffffff }
+        ensures { result ≡ advanced setup self }
+    {
+        self.get += 4;
+        if setup.setting.mode == Mode::IB && !self.main.nonmain {
+            self.main.mget = self.get;
+            self.main.valid = true;
+        }
+        self
+    }
+
+    // A long form's count: the low 24 bits.
+    #[tactic(auto, unfolding(crate::specs::Moving::counted))]
+    fn count(mut self, word: u32) -> Pushed
+        ensures { result ≡ counted self word }
+    {
+        self.run.count = word & 0xff_ffff;
+        self.run.awaited = false;
+        self.quiet(Kind::Count)
+    }
+
+    // A parameter: submits its method, or discards it where SLI says that it is not for this card. NON_CACHE
+    // comes before that, and uses up neither count nor method.
+    #[tactic(auto, unfolding(crate::specs::Moving::parameter_of, word::specs::First::choose))]
+    fn parameter(self, setup: Setup, word: u32) -> Pushed
+        requires { 1 ≤ self.run.count }
+        ensures { result ≡ parameter_of setup self word }
+    {
+        let number = self.run.method as u32;
+        if !present(setup.setting.level, number) {
+            return self.failed(PusherError::NonCache);
+        }
+        let method = Method {
+            subchannel: self.run.subchannel,
+            method: 4 * number,
+            parameter: word,
+        };
+        let did = if setup.setting.sli && !self.sli.active {
+            Did::Event {
                 event: Event::Of {
                     kind: Kind::Discard,
                     method,
                 },
-            },
+            }
+        } else {
+            Did::Submit { method }
         };
+        Pushed {
+            pusher: self.used_up(),
+            did,
+        }
     }
-    Pushed {
-        pusher: next,
-        did: Did::Submit { method },
+
+    // The run past a parameter.
+    #[tactic(auto, unfolding(word::specs::First::choose))]
+    fn used_up(mut self) -> Pusher
+        requires { 1 ≤ self.run.count }
+        ensures { result ≡ used_up self }
+    {
+        self.run.count -= 1;
+        if self.run.increasing {
+            self.run.method = self.run.method.wrapping_add(1) % 2048;
+        }
+        self
     }
-}
 
-// The run past a parameter.
-fn used_up(pusher: Pusher) -> Pusher
-    requires { 1 ≤ pusher.run.count }
-    ensures { result ≡ used_up pusher }
-{
-    let left = pusher.run.count - 1;
-    let mut next = pusher;
-    next.run.count = left;
-    if pusher.run.increasing {
-        let risen = ((pusher.run.method as u32 + 1) % 2048) as u16;
-        next.run.method = risen;
+    // What a command does, by its form.
+    #[tactic(auto, unfolding(crate::specs::Moving::commanded))]
+    fn command(self, reading: Reading) -> Pushed
+        requires { Within reading }
+        ensures { result ≡ commanded self reading }
+    {
+        match reading {
+            Reading::Increasing {
+                count,
+                subchannel,
+                method,
+            } => self.begin(count, subchannel, method, true),
+            Reading::NonIncreasing {
+                count,
+                subchannel,
+                method,
+            } => self.begin(count, subchannel, method, false),
+            Reading::Sli { mask } => self.condition(mask),
+            Reading::Return => self.go_back(),
+            Reading::Long {
+                subchannel,
+                method,
+                ..
+            } => self.await_count(subchannel, method),
+            Reading::OldJump { target } | Reading::Jump { target } => self.jump(target),
+            Reading::Call { target } => self.call(target),
+            Reading::Reserved { why } => self.failed(PusherError::ReservedCmd { why }),
+            Reading::Refused { .. } => self.failed(PusherError::ReservedCmd { why: Why::Form }),
+        }
     }
-    next
-}
 
-// A command word. Of a long form the count is still to be read.
-fn command(setup: Setup, pusher: Pusher, word: u32) -> Pushed
-    ensures { result ≡ commanded pusher (read_of setup.setting word 0) }
-{
-    let setting = setup.setting;
-    let reading = read(setting, word, 0);
-    let Reading::Long {
-        subchannel,
-        method,
-        count: _,
-    } = reading
-    else {
-        return one_word(pusher, reading);
-    };
-    let number = (method / 4) as u16;
-    let mut next = pusher;
-    next.run.method = number;
-    next.run.subchannel = subchannel;
-    next.run.increasing = false;
-    next.run.awaited = true;
-    quiet(next, Kind::Command)
-}
-
-// Every other command.
-#[tactic(auto, unfolding(crate::specs::Moving::commanded))]
-fn one_word(pusher: Pusher, reading: Reading) -> Pushed
-    requires { (number reading ≡ 5 → ⊥) × Within reading }
-    ensures { result ≡ commanded pusher reading }
-{
-    match reading {
-        Reading::Increasing {
-            count,
-            subchannel,
-            method,
-        } => begin(pusher, count, subchannel, method, true),
-        Reading::NonIncreasing {
-            count,
-            subchannel,
-            method,
-        } => begin(pusher, count, subchannel, method, false),
-        Reading::Sli { mask } => condition(pusher, mask),
-        Reading::Return => go_back(pusher),
-        Reading::OldJump { target } => jump(pusher, target),
-        Reading::Jump { target } => jump(pusher, target),
-        Reading::Call { target } => call(pusher, target),
-        Reading::Reserved { why } => failed(pusher, PusherError::ReservedCmd { why }),
-        _ => failed(pusher, PusherError::ReservedCmd { why: Why::Form }),
+    // A run of parameters. With count 0 it does nothing.
+    #[tactic(auto, unfolding(crate::specs::Moving::begun, word::specs::First::choose))]
+    fn begin(mut self, count: u32, subchannel: u32, method: u32, increasing: bool) -> Pushed
+        requires { method < 0x2000 }
+        ensures { result ≡ begun self count subchannel method increasing }
+    {
+        if count == 0 {
+            return self.quiet(Kind::Command);
+        }
+        self.run.count = count;
+        self.run.method = (method / 4) as u16;
+        self.run.subchannel = subchannel;
+        self.run.increasing = increasing;
+        self.quiet(Kind::Command)
     }
-}
 
-// A run of parameters. With count 0 it does nothing.
-#[tactic(auto, unfolding(crate::specs::Moving::begun, word::specs::First::choose))]
-fn begin(pusher: Pusher, count: u32, subchannel: u32, method: u32, increasing: bool) -> Pushed
-    requires { method < 0x2000 }
-    ensures { result ≡ begun pusher count subchannel method increasing }
-{
-    if count == 0 {
-        return quiet(pusher, Kind::Command);
+    // A long form, whose count is still to be read.
+    fn await_count(mut self, subchannel: u32, method: u32) -> Pushed
+        requires { method < 0x2000 }
+        ensures { result ≡ awaiting self subchannel method }
+    {
+        self.run.method = (method / 4) as u16;
+        self.run.subchannel = subchannel;
+        self.run.increasing = false;
+        self.run.awaited = true;
+        self.quiet(Kind::Command)
     }
-    let number = (method / 4) as u16;
-    let mut next = pusher;
-    next.run.count = count;
-    next.run.method = number;
-    next.run.subchannel = subchannel;
-    next.run.increasing = increasing;
-    quiet(next, Kind::Command)
-}
 
-// An SLI conditional: what follows is for this card if a bit of its mask is the channel's too.
-#[tactic(auto, unfolding(crate::specs::Moving::conditional))]
-fn condition(pusher: Pusher, mask: u32) -> Pushed
-    ensures { result ≡ conditional pusher mask }
-{
-    let active = mask & pusher.sli.mask != 0;
-    let mut next = pusher;
-    next.sli.active = active;
-    quiet(next, Kind::Command)
-}
-
-fn jump(pusher: Pusher, target: u32) -> Pushed
-    ensures { result ≡ jumped pusher target }
-{
-    let mut next = pusher;
-    next.get = target as u64;
-    quiet(next, Kind::Command)
-}
-
-// The return address is the read address, which is past the call's word.
-fn call(pusher: Pusher, target: u32) -> Pushed
-    ensures { result ≡ called pusher target }
-{
-    if pusher.subroutine.active {
-        return failed(pusher, PusherError::Call);
+    // An SLI conditional: what follows is for this card if a bit of its mask is the channel's too.
+    #[tactic(auto, unfolding(crate::specs::Moving::conditional))]
+    fn condition(mut self, mask: u32) -> Pushed
+        ensures { result ≡ conditional self mask }
+    {
+        self.sli.active = mask & self.sli.mask != 0;
+        self.quiet(Kind::Command)
     }
-    let back = (pusher.get % 0x1_0000_0000) as u32;
-    let mut next = pusher;
-    next.subroutine.active = true;
-    next.subroutine.back = back;
-    next.get = target as u64;
-    quiet(next, Kind::Command)
-}
 
-fn go_back(pusher: Pusher) -> Pushed
-    ensures { result ≡ returned pusher }
-{
-    if !pusher.subroutine.active {
-        return failed(pusher, PusherError::Return);
+    fn jump(mut self, target: u32) -> Pushed
+        ensures { result ≡ jumped self target }
+    {
+        self.get = target as u64;
+        self.quiet(Kind::Command)
     }
-    let mut next = pusher;
-    next.get = pusher.subroutine.back as u64;
-    next.subroutine.active = false;
-    quiet(next, Kind::Command)
-}
 
-// Reads the IB entry at ib_get, unless that is past the lent entries, whatever else is lent.
-fn entry(setup: Setup, pusher: Pusher, entries: &[u64]) -> Pushed
-    ensures { (l : PusherLoan) → result ≡ act setup pusher (with_entries l entries.now) (entry_role pusher entries.now) }
-{
-    let place = pusher.ib.get as usize;
-    if entries.len() <= place {
-        return failed(pusher, PusherError::Protection);
+    // The return address is the read address, which is past the call's word.
+    #[tactic(auto, unfolding(crate::specs::Moving::called, word::specs::First::choose))]
+    fn call(mut self, target: u32) -> Pushed
+        ensures { result ≡ called self target }
+    {
+        if self.subroutine.active {
+            return self.failed(PusherError::Call);
+        }
+        self.subroutine.active = true;
+        self.subroutine.back = (self.get % 0x1_0000_0000) as u32;
+        self.get = target as u64;
+        self.quiet(Kind::Command)
     }
-    let entry = entry_of(entries[place]);
-    let index = following(setup.order, pusher.ib.get);
-    let mut next = pusher;
-    next.ib.get = index;
-    if entry.size == 0 {
-        return failed(next, PusherError::Ib);
+
+    #[tactic(auto, unfolding(crate::specs::Moving::returned, word::specs::First::choose))]
+    fn go_back(mut self) -> Pushed
+        ensures { result ≡ returned self }
+    {
+        if !self.subroutine.active {
+            return self.failed(PusherError::Return);
+        }
+        self.get = self.subroutine.back as u64;
+        self.subroutine.active = false;
+        self.quiet(Kind::Command)
     }
-    quiet(prepare(next, entry), Kind::Entry)
+
+    // Reads the IB entry at ib_get, unless that is past the lent entries, whatever else is lent.
+    #[tactic(auto, using(crate::proofs::Entries::address_below, crate::proofs::Entries::size_below), unfolding(crate::specs::Moving::act, crate::specs::Moving::entry_role, crate::specs::Moving::entered, word::specs::First::choose))]
+    fn entry(mut self, setup: Setup, entries: &[u64]) -> Pushed
+        ensures { (l : PusherLoan) → result ≡ act setup self (with_entries l entries.now) (entry_role self entries.now) }
+    {
+        let Some(&entry) = entries.get(self.ib.get as usize) else {
+            return self.failed(PusherError::Protection);
+        };
+        let entry = Entry::from(entry);
+        self.ib.get = following(setup.order, self.ib.get);
+        if entry.size == 0 {
+            return self.failed(PusherError::Ib);
+        }
+        self.prepare(entry).quiet(Kind::Entry)
+    }
+
+    // The pushbuffer that an entry describes, ready to be read.
+    #[tactic(auto, unfolding(crate::specs::Moving::prepared, word::specs::First::choose))]
+    fn prepare(mut self, entry: Entry) -> Pusher
+        requires { (entry.address < 0x10000000000) × (entry.size < 0x400000) }
+        ensures { result ≡ prepared self entry }
+    {
+        self.get = entry.address;
+        self.put = (entry.address + 4 * entry.size) % 0x100_0000_0000;
+        self.main.nonmain = entry.nonmain;
+        if !entry.nonmain {
+            self.main.mget = entry.address;
+        }
+        self
+    }
 }
 
 // The index after another. No opening takes an order above 12; it would count as 12.
+#[tactic(auto, unfolding(crate::specs::Moving::next_index, word::specs::First::choose))]
 fn following(order: u32, index: u32) -> u32
     ensures { result ≡ next_index order index }
 {
-    let order = if 12 < order { 12 } else { order };
-    ((index as u64 + 1) % (1u64 << order)) as u32
-}
-
-// The pushbuffer that an entry describes, ready to be read.
-fn prepare(pusher: Pusher, entry: Entry) -> Pusher
-    requires { (entry.address < 0x10000000000) × (entry.size < 0x400000) }
-    ensures { result ≡ prepared pusher entry }
-{
-    let put = (entry.address + 4 * entry.size) % 0x100_0000_0000;
-    let mut next = pusher;
-    next.get = entry.address;
-    next.put = put;
-    next.main.nonmain = entry.nonmain;
-    if !entry.nonmain {
-        next.main.mget = entry.address;
-    }
-    next
+    ((index as u64 + 1) % (1u64 << order.min(12))) as u32
 }

@@ -1,5 +1,5 @@
 // The pusher's record, and the set-up that it moves by.
-ghost use Rattle.std.specs.Prelude.{◌≡◌};
+ghost use Rattle.std.specs.Prelude.{◌≡◌, Some};
 ghost use Rattle.pusher.specs.Record.{with_error};
 ghost use Rattle.pusher.specs.Outcomes.{Numbers, Halts};
 
@@ -16,7 +16,6 @@ pub struct Setup {
 // What stopped the pusher; of a reserved word, why it is that.
 #[derive(Clone, Copy)]
 pub enum PusherError {
-    None,
     Call,
     NonCache,
     Return,
@@ -38,13 +37,12 @@ impl PusherError {
 
     pub const PROTECTION: u32 = 6;
 
-    // An error's number, 0 for none.
+    // An error's number.
     #[tactic(auto, unfolding(crate::specs::Record::number))]
     pub fn number(self) -> u32
-        ensures { Numbers self result }
+        ensures { Numbers (Some self) result }
     {
         match self {
-            PusherError::None => 0,
             PusherError::Call => PusherError::CALL,
             PusherError::NonCache => PusherError::NON_CACHE,
             PusherError::Return => PusherError::RETURN,
@@ -53,6 +51,14 @@ impl PusherError {
             PusherError::Protection => PusherError::PROTECTION,
         }
     }
+}
+
+// The number of what stopped the pusher, 0 where nothing did.
+#[tactic(auto, unfolding(crate::specs::Record::number))]
+pub fn error_number(error: Option<PusherError>) -> u32
+    ensures { Numbers error result }
+{
+    error.map_or(0, PusherError::number)
 }
 
 // The run of parameters under way: how many are left, the method that the next one goes to (its
@@ -105,36 +111,22 @@ pub struct Pusher {
     pub ib: Ib,
     pub main: Main,
     pub sli: Sli,
-    pub error: PusherError,
+    pub error: Option<PusherError>,
 }
 
 impl Pusher {
     // Whether an error has stopped the pusher.
-    #[tactic(auto, unfolding(crate::specs::Record::halts))]
+    #[tactic(auto, unfolding(crate::specs::Record::halts, crate::specs::Record::number))]
     pub fn stopped(self) -> bool
         ensures { Halts self result }
     {
-        let error = self.error;
-        error.number() != 0
+        self.error.is_some()
     }
 
-    pub(crate) fn with_error(self, error: PusherError) -> Pusher
+    pub(crate) fn with_error(mut self, error: PusherError) -> Pusher
         ensures { result ≡ with_error self error }
     {
-        let run = self.run;
-        let subroutine = self.subroutine;
-        let ib = self.ib;
-        let main = self.main;
-        let sli = self.sli;
-        Pusher {
-            get: self.get,
-            put: self.put,
-            run,
-            subroutine,
-            ib,
-            main,
-            sli,
-            error,
-        }
+        self.error = Some(error);
+        self
     }
 }

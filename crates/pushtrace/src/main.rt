@@ -1,19 +1,16 @@
 // Prints what a channel does with the command words on standard input, step by step. What a line says,
-// when the run ends and what is refused is the library's, `trace`. Where it can't read or write it says
-// so on standard error, and its exit status is 0 there too.
+// when the run ends and what is refused is the library's, `trace`. Where it can't read or write it says so
+// on standard error, and its exit status is 0 there too.
 #![tactic(auto)]
 
-mod input;
-
-ghost use Rattle.std.specs.Prelude.{◌≤◌};
-
-use input::Input;
-use std::io;
-use std::io::{Read, Write};
+use std::io::{self, Read, Write};
 use trace::{BUDGET, Line, MOST_BYTES, MOST_TEXT, Stage, Trace};
 
 // One byte more than is taken, so that more is seen.
 const MOST_READ: usize = MOST_BYTES + 1;
+
+// One more than is read, so that reading needs no more memory.
+const ROOM: usize = MOST_READ + 1;
 
 const MOST_WORDS: usize = MOST_BYTES / 4;
 
@@ -23,77 +20,48 @@ const SEMAPHORES: usize = 1_024;
 const MOST_LINES: u32 = BUDGET + 1;
 
 fn main(rt: HostRuntime) -> io::Result<()> {
-    let bytes = vec![in rt.alloc(); 0u8; MOST_READ]?;
-    let words = vec![in rt.alloc(); 0u32; MOST_WORDS]?;
-    let semaphores = vec![in rt.alloc(); 0u32; SEMAPHORES]?;
-    run(&rt, &mut rt.stdin(), bytes, words, semaphores);
+    let mut bytes = Vec::with_capacity(rt.alloc(), ROOM)?;
+    let mut words = vec![in rt.alloc(); 0u32; MOST_WORDS]?;
+    let mut semaphores = vec![in rt.alloc(); 0u32; SEMAPHORES]?;
+    let mut input = rt.stdin().take(MOST_READ as u64);
+    if input.read_to_end(&mut bytes).is_err() {
+        complain(&rt, "pushtrace: standard input can't be read\n");
+    } else if print_trace(&rt, &bytes, &mut words, &mut semaphores).is_err() {
+        complain(&rt, "pushtrace: standard output can't be written\n");
+    }
     Ok(())
 }
 
-fn run(
-    rt: &(impl Print + Eprint),
-    input: &mut impl Read,
-    mut bytes: Vec<u8>,
-    words: Vec<u32>,
-    semaphores: Vec<u32>,
-) {
-    let Input::Bytes(length) = input::read(input, &mut bytes) else {
-        complain(rt, "pushtrace: standard input can't be read\n");
-        return;
-    };
-    if !print_trace(rt, &bytes[..length], words, semaphores) {
-        complain(rt, "pushtrace: standard output can't be written\n");
-    }
-}
-
-// Prints the trace of the words that the bytes are, and answers whether it could be written.
+// Prints the trace of the words that the bytes are.
 fn print_trace(
     rt: &impl Print,
     bytes: &[u8],
-    mut words: Vec<u32>,
-    mut semaphores: Vec<u32>,
-) -> bool {
-    let count = trace::words_in(bytes, &mut words);
-    let end = within(count, words.len());
-    tell(
-        rt,
-        trace::begin(bytes.len()),
-        &words[..end],
-        &mut semaphores,
-    )
+    words: &mut [u32],
+    semaphores: &mut [u32],
+) -> io::Result<()> {
+    let count = trace::words_in(bytes, words).min(words.len());
+    tell(rt, trace::begin(bytes.len()), &words[..count], semaphores)
 }
 
-// Prints the lines of a run, and answers whether they could be written. It ends at the first that
-// could not.
-fn tell(rt: &impl Print, trace: Trace, words: &[u32], semaphores: &mut [u32]) -> bool {
+// Prints the lines of a run. It ends at the first that can't be written.
+fn tell(rt: &impl Print, trace: Trace, words: &[u32], semaphores: &mut [u32]) -> io::Result<()> {
     let mut trace = trace;
     for _ in 0..MOST_LINES {
         let told = trace::next_line(trace, words, semaphores);
-        let line = told.line;
-        if !print(rt, line) {
-            return false;
-        }
+        print(rt, told.line)?;
         trace = told.trace;
-        let stage = trace.stage;
-        if let Stage::Over = stage {
-            return true;
+        if let Stage::Over = trace.stage {
+            break;
         }
     }
-    true
+    Ok(())
 }
 
-fn print(rt: &impl Print, line: Line) -> bool {
-    let bytes = line.bytes;
-    let end = within(line.length, MOST_TEXT);
-    io::writer(rt).write_all(&bytes[..end]).is_ok()
+fn print(rt: &impl Print, line: Line) -> io::Result<()> {
+    let end = line.length.min(MOST_TEXT);
+    io::writer(rt).write_all(&line.bytes[..end])
 }
 
 fn complain(rt: &impl Eprint, message: &str) {
     let _ = eprint!(rt; "{message}");
-}
-
-fn within(n: usize, most: usize) -> usize
-    ensures { result ≤ most }
-{
-    if n < most { n } else { most }
 }

@@ -3,30 +3,30 @@ use Prim.Native.Nat.{ℕ, ◌+◌, ◌*◌, ◌/◌, ◌%◌, ◌^◌, ◌≤◌
 use mathlib.Core.Path.{◌≡◌, refl, sym, ap, ◌∙◌}
 use mathlib.Core.Bool.{Bool, true, false, ◌||◌, false≢true}
 use mathlib.Core.List.{List, [], ◌∷◌, ◌++◌}
+use mathlib.Core.Option.{none, some}
 use native.Mathlib.Omega.{arith}
 use lib.Dec.{eqb, ltb}
 use lib.ListN.{length, get_or, take, drop}
 use lib.Seq.{take_at, drop_at, ext_get_or}
 use borrow.Author.Tests.{eqb-true, eqb-false, ltb-false}
+use Rattle.std.specs.declared.result.Result.{Result}
+use Rattle.std.specs.declared.result.Result.TheVariants.{Ok, Err}
 use Rattle.word.specs.First.{choose, Case, first, ◌when◌}
-use Rattle.word.specs.Setting.{SIZE, LENGTH, ROOM, refused_or, check_of}
+use Rattle.word.specs.Setting.{ROOM, refused_or}
 use Rattle.word.specs.declared.setting.Refusal.{Refusal}
-use Rattle.word.specs.declared.setting.Check.TheVariants as check
+use Rattle.word.proofs.First.{or_else, first_append}
 use Rattle.word.proofs.Settings.{hit, miss, no_more}
 use Rattle.rules.specs.Next.{◌in_state◌}
 use Rattle.rules.specs.Map.{main, inside}
 use Rattle.rules.specs.Reason.{Submission, size}
-use Rattle.rules.specs.Judging.{length_refused, setting_of}
+use Rattle.rules.specs.Judging.{judge_cases}
 use Rattle.rules.specs.Search.{number_of, is_found, found, list_of, exact_byte, exact_map}
-use Rattle.rules.proofs.Refusals.{by_setting, by_size, by_length, past_table}
 use Rattle.rules.proofs.ExactMap.{list_length, list_element}
 use Rattle.search.specs.Room.{room_of}
 use Rattle.search.proofs.Found.{room_length, entry_found, entry_unfound}
 use Rattle.repair.specs.Changes.{changes, at_front, byte_by, Rewrites}
 use Rattle.repair.specs.Repairing.{Mends, room_refused, repair_of, map_after, list_after, work_after}
 use Rattle.repair.specs.Outcomes.{RepairLoan, submitted, Repairs}
-use Rattle.repair.specs.declared.repairing.Repaired.{Repaired}
-use Rattle.repair.specs.declared.repairing.Repaired.TheVariants.{Changes, Refused}
 
 -- a mark where a pair was found
 mark_is : (t b : Bool) (n : ℕ) → (t ≡ false → b ≡ true) → (t ≡ true → b ≡ false) → choose t 0 n ≡ choose b n 0
@@ -97,51 +97,44 @@ rooms_fit bytes list work e = go (ltb list (bytes / 4)) refl e
 
 -- The refusals in order, and what is done where there is none.
 module _ (level : ℕ) (sli : Bool) (l : RepairLoan) where
+  abbrev table : List Case
+  table = judge_cases 8192 level sli l.bytes l.map l.permit
+
   abbrev rooms : List Case
   rooms = ROOM when room_refused (length l.bytes) (length l.list) (length l.work) ∷ []
 
-  abbrev done : Repaired
-  done = Changes (length (changes l.map (exact_map (submitted level sli l))))
+  abbrev done : Result ℕ Refusal
+  done = Ok (length (changes l.map (exact_map (submitted level sli l))))
 
-  abbrev asked : Repaired
+  abbrev asked : Result ℕ Refusal
   asked = repair_of level sli l.bytes l.map l.permit (length l.list) (length l.work)
 
-  refusing : (n : Refusal) → Refused n ≡ asked → Repairs level sli l (Refused n) l.map l.list l.work
+  refusing : (n : Refusal) → Err n ≡ asked → Repairs level sli l (Err n) l.map l.list l.work
   unfolding map_after list_after work_after
   refusing n e = record { answer = e; map_after = refl; list_after = refl; work_after = refl }
 
-  pub setting_refused : (n : Refusal) → check_of (setting_of level sli) ≡ check.Refused n → Repairs level sli l (Refused n) l.map l.list l.work
-  unfolding repair_of
-  setting_refused n e = refusing n (by_setting 8192 level sli l.bytes l.map l.permit rooms Refused done n e)
+  pub table_refused : (n : Refusal) → first table ≡ some n.number → Repairs level sli l (Err n) l.map l.list l.work
+  unfolding repair_of refused_or or_else
+  table_refused n e = refusing n (rw (first_append table rooms, e))
 
-  module _ (fine : check_of (setting_of level sli) ≡ check.Fine) where
-    pub size_refused : 4 * 8192 < length l.bytes → Repairs level sli l (Refused (record { number = SIZE })) l.map l.list l.work
-    unfolding repair_of
-    size_refused h = refusing _ (by_size 8192 level sli l.bytes l.map l.permit rooms Refused done fine h)
+  module _ (fine : first table ≡ none) where
+    past : refused_or Err (first rooms) done ≡ asked
+    unfolding repair_of or_else
+    past = rw (first_append table rooms, fine)
 
-    module _ (small : length l.bytes ≤ 4 * 8192) where
-      pub length_refused_lem : length_refused (length l.bytes) (length l.map) (length l.permit) ≡ true → Repairs level sli l (Refused (record { number = LENGTH })) l.map l.list l.work
-      unfolding repair_of
-      length_refused_lem h = refusing _ (by_length 8192 level sli l.bytes l.map l.permit rooms Refused done fine small h)
+    pub room_refused_lem : room_refused (length l.bytes) (length l.list) (length l.work) ≡ true → Repairs level sli l (Err (record { number = ROOM })) l.map l.list l.work
+    room_refused_lem h = refusing _ (sym (hit ROOM [] Err done h) ∙ past)
 
-      module _ (lengths : length_refused (length l.bytes) (length l.map) (length l.permit) ≡ false) where
-        past : refused_or Refused (first rooms) done ≡ asked
-        unfolding repair_of
-        past = past_table 8192 level sli l.bytes l.map l.permit rooms Refused done fine small lengths
-
-        pub room_refused_lem : room_refused (length l.bytes) (length l.list) (length l.work) ≡ true → Repairs level sli l (Refused (record { number = ROOM })) l.map l.list l.work
-        room_refused_lem h = refusing _ (sym (hit ROOM [] Refused done h) ∙ past)
-
-        pub mended :
-            room_refused (length l.bytes) (length l.list) (length l.work) ≡ false
-            → {map list work : List ℕ} {r : ℕ}
-            → Mends (submitted level sli l) l.map l.list l.work map list work r
-            → Repairs level sli l (Changes r) map list work
-        unfolding map_after list_after work_after
-        mended h m =
-            record {
-              answer = ap Changes m.counted ∙ sym (miss ROOM [] Refused done h ∙ no_more Refused done) ∙ past;
-              map_after = m.marks;
-              list_after = m.listed;
-              work_after = m.cleared;
-            }
+    pub mended :
+        room_refused (length l.bytes) (length l.list) (length l.work) ≡ false
+        → {map list work : List ℕ} {r : ℕ}
+        → Mends (submitted level sli l) l.map l.list l.work map list work r
+        → Repairs level sli l (Ok r) map list work
+    unfolding map_after list_after work_after
+    mended h m =
+        record {
+          answer = ap Ok m.counted ∙ sym (miss ROOM [] Err done h ∙ no_more Err done) ∙ past;
+          map_after = m.marks;
+          list_after = m.listed;
+          work_after = m.cleared;
+        }

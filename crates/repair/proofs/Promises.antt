@@ -9,6 +9,8 @@ use native.Mathlib.Omega.{arith}
 use lib.Dec.{ltb}
 use lib.ListN.{length, get_or, get_or-eq_default}
 use borrow.Author.Tests.{eq-eqb, ltb-true, ltb-false}
+use Rattle.std.specs.declared.result.Result.{Result}
+use Rattle.std.specs.declared.result.Result.TheVariants.{Ok, Err}
 use Rattle.word.specs.First.{Case, PlainCase, ◌when◌, ◌if◌, FirstIs}
 use Rattle.word.specs.Setting.{ROOM, refused_or}
 use Rattle.word.specs.declared.setting.Refusal.{Refusal}
@@ -34,17 +36,15 @@ use Rattle.repair.specs.Repairing.{room_refused, repair_cases, repair_of, map_af
 use Rattle.repair.specs.Answers.{repaired_refusal, repaired_values}
 use Rattle.repair.specs.Outcomes.{RepairLoan, to_repair, submitted, Repairs}
 use Rattle.repair.specs.Promises.{repair_plain, Refused, One, Lends, Mended, Accepted, Again, NoneLost, Listed, Cleared}
-use Rattle.repair.specs.declared.repairing.Repaired.{Repaired}
-use Rattle.repair.specs.declared.repairing.Repaired.TheVariants as repaired
 use Rattle.repair.proofs.Rewriting.{below_most, front_length, front_first, front_rest}
 use Rattle.repair.proofs.Outcomes.{rooms_fit}
 use Rattle.repair.proofs.Listed.{says}
 
-refusal_tells : (n : Refusal) → repaired_refusal (repaired.Refused n) ≡ some n.number
+refusal_tells : (n : Refusal) → repaired_refusal (Err n) ≡ some n.number
 unfolding repaired_refusal
 refusal_tells n = refl
 
-changes_tell : (c : ℕ) → repaired_refusal (repaired.Changes c) ≡ none
+changes_tell : (c : ℕ) → repaired_refusal (Ok c) ≡ none
 unfolding repaired_refusal
 changes_tell c = refl
 
@@ -58,8 +58,8 @@ module _ (level : ℕ) (sli : Bool) (l : RepairLoan) where
   abbrev cases : List Case
   cases = repair_cases level sli l.bytes l.map l.permit (length l.list) (length l.work)
 
-  abbrev done : Repaired
-  done = repaired.Changes (length (changes l.map (exact_map given)))
+  abbrev done : Result ℕ Refusal
+  done = Ok (length (changes l.map (exact_map given)))
 
   abbrev rooms : List Case
   rooms = ROOM when room_refused (length l.bytes) (length l.list) (length l.work) ∷ []
@@ -78,16 +78,16 @@ module _ (level : ℕ) (sli : Bool) (l : RepairLoan) where
 
   -- an answer is a refusal, which leaves everything, or it is what is done
   refused_leaves :
-      (a : Repaired) (map list work : List ℕ)
+      (a : Result ℕ Refusal) (map list work : List ℕ)
       → Repairs level sli l a map list work
       → (n : ℕ)
       → repaired_refusal a ≡ some n
       → (map ≡ l.map) × (list ≡ l.list) × (work ≡ l.work)
   unfolding repaired_refusal map_after list_after work_after
-  refused_leaves (repaired.Changes c) map list work h n e = let z : ◌≡◌ {A = ℕ} 0 1 = cc in absurd (omega arith)
-  refused_leaves (repaired.Refused m) map list work h n e = (h.map_after, h.list_after, h.work_after)
+  refused_leaves (Ok c) map list work h n e = let z : ◌≡◌ {A = ℕ} 0 1 = cc in absurd (omega arith)
+  refused_leaves (Err m) map list work h n e = (h.map_after, h.list_after, h.work_after)
 
-  pub record Did (a : Repaired) (map list work : List ℕ) : Type 0 where
+  pub record Did (a : Result ℕ Refusal) (map list work : List ℕ) : Type 0 where
     pub values : repaired_values a ≡ length (changes l.map (exact_map given)) ∷ []
     pub marks : map ≡ exact_map given
     pub listed : list ≡ at_front (changes l.map (exact_map given)) l.list
@@ -95,10 +95,10 @@ module _ (level : ℕ) (sli : Bool) (l : RepairLoan) where
     pub fit : Fits 8192 level sli l.bytes l.map l.permit
     pub spacious : (length l.bytes / 4 ≤ length l.list) × (2 * (length l.bytes / 4) ≤ length l.work)
 
-  did : (a : Repaired) (map list work : List ℕ) → Repairs level sli l a map list work → repaired_refusal a ≡ none → Did a map list work
+  did : (a : Result ℕ Refusal) (map list work : List ℕ) → Repairs level sli l a map list work → repaired_refusal a ≡ none → Did a map list work
   unfolding repair_of refused_or repaired_values map_after list_after work_after
   did a map list work h e =
-      let None-first = sym (told_first repaired.Refused repaired_refusal refusal_tells cases done a (changes_tell _) h.answer) ∙ e in
+      let None-first = sym (told_first Err repaired_refusal refusal_tells cases done a (changes_tell _) h.answer) ∙ e in
       let two = append_none (judge_cases 8192 level sli l.bytes l.map l.permit) rooms None-first in
       let is : a ≡ done = h.answer ∙ rw None-first in
       record {
@@ -111,16 +111,16 @@ module _ (level : ℕ) (sli : Bool) (l : RepairLoan) where
       }
 
 -- where there are values nothing is refused
-valued : (a : Repaired) (c : ℕ) → repaired_values a ≡ c ∷ [] → repaired_refusal a ≡ none
+valued : (a : Result ℕ Refusal) (c : ℕ) → repaired_values a ≡ c ∷ [] → repaired_refusal a ≡ none
 unfolding repaired_values repaired_refusal
-valued (repaired.Changes d) c e = refl
-valued (repaired.Refused n) c e = let z : ◌≡◌ {A = ℕ} 0 1 = cc in absurd (omega arith)
+valued (Ok d) c e = refl
+valued (Err n) c e = let z : ◌≡◌ {A = ℕ} 0 1 = cc in absurd (omega arith)
 
 pub refused : Refused
 unfolding repair_of
 refused =
     record {
-      exactly = λ level sli l a map list work h. told_plain repaired.Refused repaired_refusal refusal_tells (cases level sli l) (repair_plain level sli l) (done level sli l) a (repair_agree level sli l) (changes_tell _) h.answer;
+      exactly = λ level sli l a map list work h. told_plain Err repaired_refusal refusal_tells (cases level sli l) (repair_plain level sli l) (done level sli l) a (repair_agree level sli l) (changes_tell _) h.answer;
       unwritten = λ level sli l a map list work. refused_leaves level sli l a map list work;
     }
 
@@ -129,9 +129,9 @@ one level sli l a b map map' list list' work work' h k =
     let x = submitted level sli l in
     let same = one_outcome h.answer k.answer in (
       same,
-      h.map_after ∙ ap (λ (r : Repaired). map_after r x l.map) same ∙ sym k.map_after,
-      h.list_after ∙ ap (λ (r : Repaired). list_after r x l.map l.list) same ∙ sym k.list_after,
-      h.work_after ∙ ap (λ (r : Repaired). work_after r x l.work) same ∙ sym k.work_after,
+      h.map_after ∙ ap (λ (r : Result ℕ Refusal). map_after r x l.map) same ∙ sym k.map_after,
+      h.list_after ∙ ap (λ (r : Result ℕ Refusal). list_after r x l.map l.list) same ∙ sym k.list_after,
+      h.work_after ∙ ap (λ (r : Result ℕ Refusal). work_after r x l.work) same ∙ sym k.work_after,
     )
 
 pub mended : Mended
@@ -211,7 +211,7 @@ cleared level sli l a map list work h e =
     })
 
 -- how large the numbers of an answer are
-pub few_changes : (level : ℕ) (sli : Bool) (l : RepairLoan) (a : Repaired) (map list work : List ℕ) → Repairs level sli l a map list work → (c : ℕ) → repaired_values a ≡ c ∷ [] → c ≤ 8192
+pub few_changes : (level : ℕ) (sli : Bool) (l : RepairLoan) (a : Result ℕ Refusal) (map list work : List ℕ) → Repairs level sli l a map list work → (c : ℕ) → repaired_values a ≡ c ∷ [] → c ≤ 8192
 unfolding changes
 few_changes level sli l a map list work h c e =
     let d = did level sli l a map list work h (valued a c e) in
@@ -228,6 +228,6 @@ first_small [] n s f = absurd f
 first_small (p ∷ ps) n s (inl f) = omega (arith, s.0, f.1)
 first_small (p ∷ ps) n s (inr f) = first_small ps n s.1 f.1
 
-pub small_refusal : (level : ℕ) (sli : Bool) (l : RepairLoan) (a : Repaired) (map list work : List ℕ) → Repairs level sli l a map list work → (k : ℕ) → repaired_refusal a ≡ some k → k < 2 ^ 8
+pub small_refusal : (level : ℕ) (sli : Bool) (l : RepairLoan) (a : Result ℕ Refusal) (map list work : List ℕ) → Repairs level sli l a map list work → (k : ℕ) → repaired_refusal a ≡ some k → k < 2 ^ 8
 small_refusal level sli l a map list work h k e =
     first_small (repair_plain level sli l) k (omega arith, (omega arith, (omega arith, (omega arith, (omega arith, tt))))) ((refused.exactly level sli l a map list work h k).0 e)

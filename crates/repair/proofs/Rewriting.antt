@@ -120,6 +120,10 @@ module _ (map₀ list₀ work₀ : List ℕ) where
         counted = refl;
       }
 
+  -- no more than those places changed
+  pub few : (p : ℕ) (map list work : List ℕ) (count : ℕ) → Passed p map list work count → count ≤ p
+  few p map list work count h = let most = below_most map₀ new p in omega (arith, h.counted)
+
   module _
       (p : ℕ)
       (map list work : List ℕ)
@@ -136,9 +140,6 @@ module _ (map₀ list₀ work₀ : List ℕ) where
 
       now_byte : get_or new p 0 ≡ byte_by work₀ p
       now_byte = list_element (byte_by work₀) (length map₀) p there
-
-      pub room_there : count < length list
-      room_there = let most = below_most map₀ new p in omega (arith, h.counted, h.list_long)
 
       module _ (map' list' work' : List ℕ) (r : ℕ) (put : Puts map list work p count map' list' work' r) where
         abbrev before : List ℕ

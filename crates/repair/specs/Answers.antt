@@ -1,13 +1,14 @@
 -- The numbers of the repair's answer: the refusal's, or none, and how many bytes of the map changed.
 use Rattle.std.specs.Prelude.{ℕ, List, [], ◌∷◌}
 use Rattle.std.proofs.Math.Option.{Option, none, some}
-use Rattle.repair.specs.declared.repairing.Repaired.{Repaired}
-use Rattle.repair.specs.declared.repairing.Repaired.TheVariants.{Changes, Refused}
+use Rattle.std.specs.declared.result.Result.{Result}
+use Rattle.std.specs.declared.result.Result.TheVariants.{Ok, Err}
+use Rattle.word.specs.declared.setting.Refusal.{Refusal}
 
-unfoldable pub repaired_refusal : Repaired → Option ℕ
-repaired_refusal (Changes c) = none
-repaired_refusal (Refused n) = some n.number
+unfoldable pub repaired_refusal : Result ℕ Refusal → Option ℕ
+repaired_refusal (Ok c) = none
+repaired_refusal (Err n) = some n.number
 
-unfoldable pub repaired_values : Repaired → List ℕ
-repaired_values (Changes c) = c ∷ []
-repaired_values (Refused n) = []
+unfoldable pub repaired_values : Result ℕ Refusal → List ℕ
+repaired_values (Ok c) = c ∷ []
+repaired_values (Err n) = []

@@ -1,4 +1,5 @@
 pub mod Changes
+pub mod Marking
 pub mod Repairing
 pub mod Answers
 pub mod Outcomes

@@ -2,7 +2,9 @@
 -- (Outcomes.antt): of every answer, map, list and work room that the contract allows.
 use Rattle.std.specs.Prelude.{ℕ, ◌*◌, ◌/◌, ◌%◌, ◌^◌, ◌≤◌, ◌<◌, ◌≡◌, Bool, List, [], ◌∷◌, ◌++◌, ◌⊎◌, ◌↔◌, length, get_or}
 use Rattle.std.proofs.Math.Option.{none, some}
+use Rattle.std.specs.declared.result.Result.{Result}
 use Rattle.word.specs.First.{PlainCase, ◌if◌, FirstIs}
+use Rattle.word.specs.declared.setting.Refusal.{Refusal}
 use Rattle.rules.specs.Reason.{size}
 use Rattle.rules.specs.Path.{Bad, Exact}
 use Rattle.rules.specs.Answers.{Accepts}
@@ -12,7 +14,6 @@ use Rattle.rules.specs.Reasons.{Marks}
 use Rattle.rules.specs.declared.judging.Judgement.{Judgement}
 use Rattle.repair.specs.Answers.{repaired_refusal, repaired_values}
 use Rattle.repair.specs.Outcomes.{RepairLoan, to_repair, submitted, Repairs}
-use Rattle.repair.specs.declared.repairing.Repaired.{Repaired}
 
 -- Promise 1. R37: the order, in plain terms: the gatekeeper's for at most 8,192 words (R8), and then the rooms (R11).
 abbrev pub repair_plain : ℕ → Bool → RepairLoan → List PlainCase
@@ -24,12 +25,12 @@ repair_plain level sli l =
 -- work room are as they were.
 pub record Refused : Type 0 where
   pub exactly :
-      (level : ℕ) (sli : Bool) (l : RepairLoan) (a : Repaired) (map list work : List ℕ)
+      (level : ℕ) (sli : Bool) (l : RepairLoan) (a : Result ℕ Refusal) (map list work : List ℕ)
       → Repairs level sli l a map list work
       → (n : ℕ)
       → repaired_refusal a ≡ some n ↔ FirstIs (repair_plain level sli l) n
   pub unwritten :
-      (level : ℕ) (sli : Bool) (l : RepairLoan) (a : Repaired) (map list work : List ℕ)
+      (level : ℕ) (sli : Bool) (l : RepairLoan) (a : Result ℕ Refusal) (map list work : List ℕ)
       → Repairs level sli l a map list work
       → (n : ℕ)
       → repaired_refusal a ≡ some n
@@ -38,7 +39,7 @@ pub record Refused : Type 0 where
 -- The contract leaves one outcome.
 abbrev pub One : Type 0
 One =
-    (level : ℕ) (sli : Bool) (l : RepairLoan) (a b : Repaired) (map map' list list' work work' : List ℕ)
+    (level : ℕ) (sli : Bool) (l : RepairLoan) (a b : Result ℕ Refusal) (map map' list list' work work' : List ℕ)
     → Repairs level sli l a map list work
     → Repairs level sli l b map' list' work'
     → (a ≡ b) × (map ≡ map') × (list ≡ list') × (work ≡ work')
@@ -55,7 +56,7 @@ Lends =
 -- H12: the map that comes out is the exact one.
 abbrev pub Mended : Type 0
 Mended =
-    (level : ℕ) (sli : Bool) (l : RepairLoan) (a : Repaired) (map list work : List ℕ)
+    (level : ℕ) (sli : Bool) (l : RepairLoan) (a : Result ℕ Refusal) (map list work : List ℕ)
     → Repairs level sli l a map list work
     → repaired_refusal a ≡ none
     → Exact (submitted level sli l) map
@@ -63,7 +64,7 @@ Mended =
 -- H15: so the gatekeeper accepts it, with the same words, list of methods, level and SLI setting, exactly if no place is bad.
 abbrev pub Accepted : Type 0
 Accepted =
-    (level : ℕ) (sli : Bool) (l : RepairLoan) (a : Repaired) (map list work : List ℕ) (r : Judgement)
+    (level : ℕ) (sli : Bool) (l : RepairLoan) (a : Result ℕ Refusal) (map list work : List ℕ) (r : Judgement)
     → Bytes l.permit
     → Repairs level sli l a map list work
     → repaired_refusal a ≡ none
@@ -74,7 +75,7 @@ Accepted =
 -- H16: repaired again, with whatever rooms, it stays, and nothing is listed.
 abbrev pub Again : Type 0
 Again =
-    (level : ℕ) (sli : Bool) (l : RepairLoan) (a b : Repaired) (map list work map' list' work' list_room work_room : List ℕ)
+    (level : ℕ) (sli : Bool) (l : RepairLoan) (a b : Result ℕ Refusal) (map list work map' list' work' list_room work_room : List ℕ)
     → Repairs level sli l a map list work
     → repaired_refusal a ≡ none
     → Repairs level sli (to_repair l.bytes map l.permit list_room work_room) b map' list' work'
@@ -84,7 +85,7 @@ Again =
 -- H17: where the gatekeeper accepts the author's map, that has every mark of the repaired one.
 abbrev pub NoneLost : Type 0
 NoneLost =
-    (level : ℕ) (sli : Bool) (l : RepairLoan) (a : Repaired) (map list work : List ℕ) (r : Judgement)
+    (level : ℕ) (sli : Bool) (l : RepairLoan) (a : Result ℕ Refusal) (map list work : List ℕ) (r : Judgement)
     → Repairs level sli l a map list work
     → repaired_refusal a ≡ none
     → Judges level sli l.bytes l.map l.permit r
@@ -121,7 +122,7 @@ pub record Says (old new room list : List ℕ) (count : ℕ) : Type 0 where
 -- H13: so the list does
 abbrev pub Listed : Type 0
 Listed =
-    (level : ℕ) (sli : Bool) (l : RepairLoan) (a : Repaired) (map list work : List ℕ) (count : ℕ)
+    (level : ℕ) (sli : Bool) (l : RepairLoan) (a : Result ℕ Refusal) (map list work : List ℕ) (count : ℕ)
     → Bytes l.map
     → Repairs level sli l a map list work
     → repaired_values a ≡ count ∷ []
@@ -136,7 +137,7 @@ pub record Wiped (n : ℕ) (room work : List ℕ) : Type 0 where
 -- H14: so it is
 abbrev pub Cleared : Type 0
 Cleared =
-    (level : ℕ) (sli : Bool) (l : RepairLoan) (a : Repaired) (map list work : List ℕ)
+    (level : ℕ) (sli : Bool) (l : RepairLoan) (a : Result ℕ Refusal) (map list work : List ℕ)
     → Repairs level sli l a map list work
     → repaired_refusal a ≡ none
     → Wiped (size (submitted level sli l)) l.work work

@@ -1,13 +1,14 @@
 -- The repair.
 use Rattle.std.specs.Prelude.{ℕ, ◌*◌, ◌/◌, ◌≡◌, Bool, ◌||◌, List, [], ◌∷◌, ◌++◌, ltb, length}
+use Rattle.std.specs.declared.result.Result.{Result}
+use Rattle.std.specs.declared.result.Result.TheVariants.{Ok, Err}
 use Rattle.word.specs.First.{Case, first, ◌when◌}
 use Rattle.word.specs.Setting.{ROOM, refused_or}
+use Rattle.word.specs.declared.setting.Refusal.{Refusal}
 use Rattle.rules.specs.Reason.{Submission, submission, size}
 use Rattle.rules.specs.Judging.{judge_cases, setting_of}
 use Rattle.rules.specs.Search.{list_of, exact_map}
 use Rattle.repair.specs.Changes.{changes, at_front}
-use Rattle.repair.specs.declared.repairing.Repaired.{Repaired}
-use Rattle.repair.specs.declared.repairing.Repaired.TheVariants.{Changes, Refused}
 
 -- H12 to H14: what is done where nothing is refused: the map becomes the exact one, what changed stands at the front of the list, and the
 -- work room is 0 at its front, two entries a word
@@ -27,22 +28,22 @@ repair_cases level sli bytes map permit list work =
     judge_cases 8192 level sli bytes map permit ++ (ROOM when room_refused (length bytes) list work ∷ [])
 
 -- H13: what the repair answers: a refusal, or how many bytes changed
-unfoldable pub repair_of : ℕ → Bool → List ℕ → List ℕ → List ℕ → ℕ → ℕ → Repaired
+unfoldable pub repair_of : ℕ → Bool → List ℕ → List ℕ → List ℕ → ℕ → ℕ → Result ℕ Refusal
 repair_of level sli bytes map permit list work =
-    refused_or Refused (first (repair_cases level sli bytes map permit list work))
-    (Changes (length (changes map (exact_map (submission (setting_of level sli) bytes permit)))))
+    refused_or Err (first (repair_cases level sli bytes map permit list work))
+    (Ok (length (changes map (exact_map (submission (setting_of level sli) bytes permit)))))
 
 -- H12, R31: the map after it: the exact one, or as it was
-unfoldable pub map_after : Repaired → Submission → List ℕ → List ℕ
-map_after (Refused n) x map = map
-map_after (Changes c) x map = exact_map x
+unfoldable pub map_after : Result ℕ Refusal → Submission → List ℕ → List ℕ
+map_after (Err n) x map = map
+map_after (Ok c) x map = exact_map x
 
 -- H13, R31: the list: what changed at its front, or as it was
-unfoldable pub list_after : Repaired → Submission → List ℕ → List ℕ → List ℕ
-list_after (Refused n) x map list = list
-list_after (Changes c) x map list = at_front (changes map (exact_map x)) list
+unfoldable pub list_after : Result ℕ Refusal → Submission → List ℕ → List ℕ → List ℕ
+list_after (Err n) x map list = list
+list_after (Ok c) x map list = at_front (changes map (exact_map x)) list
 
 -- H14, R31: the work room: 0 at its front, two entries a word, or as it was
-unfoldable pub work_after : Repaired → Submission → List ℕ → List ℕ
-work_after (Refused n) x work = work
-work_after (Changes c) x work = at_front (list_of (λ k. 0) (2 * size x)) work
+unfoldable pub work_after : Result ℕ Refusal → Submission → List ℕ → List ℕ
+work_after (Err n) x work = work
+work_after (Ok c) x work = at_front (list_of (λ k. 0) (2 * size x)) work

@@ -5,4 +5,4 @@
 mod marks;
 mod repairing;
 
-pub use repairing::{Repaired, repair};
+pub use repairing::repair;

@@ -1,7 +1,19 @@
 // The marks of the exact map, by what the search left in the work room.
-ghost use Rattle.std.specs.Prelude.{◌≡◌, ◌+◌, ◌*◌, ◌^◌, ◌%◌, ◌≤◌, ◌<◌, eqb, length, set};
+ghost use Rattle.std.specs.Prelude.{◌≡◌, ◌*◌, ◌^◌, ◌%◌, ◌≤◌, ◌<◌, eqb, length};
 ghost use Rattle.word.specs.First.{choose};
-ghost use Rattle.repair.specs.Changes.{change, byte_by, Puts, Rewrites};
+ghost use Rattle.repair.specs.Changes.{change, Rewrites};
+
+// The map, the list of what changed and the work room, while the map is rewritten; and how many bytes of it
+// changed by then. Each has its own lifetime: with one for all, only of the first is it known what it holds
+// once they come back.
+#[derive(Drop)]
+struct Marks<'m, 'l, 'w> {
+    map: &'m mut [u8],
+    list: &'l mut [u64],
+    work: &'w mut [u64],
+    count: usize,
+    ghost sized: { (length map.now < 2 ^ 32) × (length map.now ≤ length list.now) × (length work.now ≡ 2 * length map.now) },
+}
 
 // Writes the map's new bytes over the old, lists those that changed, and clears the work room on the way.
 // Answers how many changed.
@@ -9,39 +21,60 @@ pub(crate) fn rewrite(map: &mut [u8], list: &mut [u64], work: &mut [u64]) -> usi
     requires { (length map.old < 2 ^ 32) × (length map.old ≤ length list.old) × (length work.old ≡ 2 * length map.old) }
     ensures { Rewrites map.old list.old work.old map.new list.new work.new result }
 {
-    let mut count = 0;
-    for place in 0..map.len() {
-        count = put(map, list, work, place, count);
+    let places = map.len();
+    let mut marks = Marks::begin(map, list, work);
+    for place in 0..places {
+        marks.put(place);
     }
-    count
+    marks.count
 }
 
-// The byte of one place. Answers how many changed by then.
-fn put(map: &mut [u8], list: &mut [u64], work: &mut [u64], place: usize, count: usize) -> usize
-    requires { (place < 2 ^ 32) × (place < length map.old) × (count < length list.old) × (length work.old ≡ 2 * length map.old) }
-    ensures { Puts map.old list.old work.old place count map.new list.new work.new result }
-{
-    let new = take_byte(work, place);
-    let old = map[place];
-    if old == new {
-        return count;
-    }
-    map[place] = new;
-    list[count] = change(place, old, new);
-    count + 1
-}
+impl<'m, 'l, 'w> Marks<'m, 'l, 'w> {
+    ghost use Rattle.repair.specs.Marking.{Writes, Takes};
 
-// The new byte of a place, whose two entries are cleared.
-fn take_byte(work: &mut [u64], place: usize) -> u8
-    requires { (place < 2 ^ 32) × (2 * place + 1 < length work.old) }
-    ensures { (result ≡ byte_by work.old place) × (work.new ≡ set (set work.old (2 * place) 0) (2 * place + 1) 0) }
-{
-    let main = 2 * place;
-    let inside = main + 1;
-    let new = mark(work[main], 1) + mark(work[inside], 2);
-    work[main] = 0;
-    work[inside] = 0;
-    new
+    // Nothing has changed yet.
+    fn begin(map: &'m mut [u8], list: &'l mut [u64], work: &'w mut [u64]) -> Marks<'m, 'l, 'w>
+        requires { (length map.old < 2 ^ 32) × (length map.old ≤ length list.old) × (length work.old ≡ 2 * length map.old) }
+        ensures same_map { result.map.ghost_name ≡ map.entry.ghost_name }
+        ensures same_list { result.list.ghost_name ≡ list.entry.ghost_name }
+        ensures same_work { result.work.ghost_name ≡ work.entry.ghost_name }
+        ensures unchanged { (result.map.now ≡ map.old) × (result.list.now ≡ list.old) × (result.work.now ≡ work.old) × (result.count ≡ 0) }
+    {
+        Marks {
+            map,
+            list,
+            work,
+            count: 0,
+        }
+    }
+
+    // The byte of one place.
+    fn put(&mut self, place: usize)
+        requires { (place < length self.old.map.now) × (self.old.count ≤ place) }
+        ensures { Writes place self.old self.new }
+    {
+        let new = self.take_byte(place);
+        let old = self.map[place];
+        if old == new {
+            return;
+        }
+        self.map[place] = new;
+        self.list[self.count] = change(place, old, new);
+        self.count += 1;
+    }
+
+    // The new byte of a place, whose two entries are cleared.
+    fn take_byte(&mut self, place: usize) -> u8
+        requires { place < length self.old.map.now }
+        ensures { Takes place self.old self.new result }
+    {
+        let main = 2 * place;
+        let inside = main + 1;
+        let new = mark(self.work[main], 1) + mark(self.work[inside], 2);
+        self.work[main] = 0;
+        self.work[inside] = 0;
+        new
+    }
 }
 
 // The mark of a pair, if its entry says that it was found.

@@ -16,7 +16,7 @@ use Rattle.word.specs.Lowest.{lowest, found?}
 use Rattle.word.proofs.Lowest.{lowest_none, found_none, none_found}
 use Rattle.rules.specs.Map.{over_three, starts, any_start, all_bits}
 use Rattle.rules.specs.Judging.{place_verdict}
-use Rattle.rules.specs.declared.judging.Verdict.TheVariants.{Accepted}
+use Rattle.rules.specs.Judging.{accepted}
 
 -- one byte more
 pub bits_more : (part : List ℕ) (n bits : ℕ) → bits ≡ all_bits part n → bit_or bits (get_or part n 0) ≡ all_bits part (n + 1)
@@ -57,7 +57,7 @@ bits_start part bits e = go (eqb bits 0) refl (found? (lowest (starts part) (len
         absurd (omega arith)
 
 -- none has a bit above 3: no byte is over 3
-pub bits_narrow : (map : List ℕ) (bits : ℕ) → bits ≡ all_bits map (length map) → bits < 4 → Accepted ≡ place_verdict (lowest (over_three map) (length map))
+pub bits_narrow : (map : List ℕ) (bits : ℕ) → bits ≡ all_bits map (length map) → bits < 4 → accepted ≡ place_verdict (lowest (over_three map) (length map))
 unfolding over_three place_verdict
 bits_narrow map bits e l =
     let all = (bits_below 2 map (length map)).0 (omega arith) in

@@ -9,6 +9,7 @@ use native.Mathlib.Omega.{arith}
 use lib.Dec.{eqb}
 use lib.ListN.{length, get_or}
 use borrow.Author.Tests.{eqb-true, eqb-false, ne_eqb, ltb-false, le-ltb, not-false}
+use Rattle.std.specs.declared.result.Result.TheVariants.{Ok, Err}
 use Rattle.word.specs.First.{choose}
 use Rattle.word.specs.Lowest.{lowest, found?}
 use Rattle.word.specs.Reading.{parameter_count}
@@ -23,25 +24,26 @@ use Rattle.rules.specs.Judging.{first_of, place_verdict, start_verdict, at_mark,
 use Rattle.rules.specs.Path.{Next}
 use Rattle.rules.specs.Promises.{Permitted}
 use Rattle.rules.specs.declared.pair.Pair.{Pair}
-use Rattle.rules.specs.declared.judging.Verdict.{Verdict}
-use Rattle.rules.specs.declared.judging.Verdict.TheVariants.{Accepted, Rejected, Refused, Reserved}
+use Rattle.rules.specs.Judging.{Verdict}
+use Rattle.rules.specs.declared.judging.Unfit.TheVariants.{Rejected, Refused, Reserved}
+use Rattle.rules.specs.Judging.{accepted}
 use Rattle.rules.proofs.Parts.{permits_plain}
 use Rattle.rules.proofs.Cases.{Arrived, quiet}
 
 -- what holds of two verdicts holds of the first that is no acceptance; and where that is acceptance, both are
 either_first : (P : Verdict → Type 0) (v w : Verdict) → P v → P w → P (first_of v w)
 unfolding first_of
-either_first P Accepted w a b = b
-either_first P (Rejected r p) w a b = a
-either_first P (Refused n) w a b = a
-either_first P (Reserved y p) w a b = a
+either_first P (Ok u) w a b = b
+either_first P (Err (Rejected r p)) w a b = a
+either_first P (Err (Refused n)) w a b = a
+either_first P (Err (Reserved y p)) w a b = a
 
-both_accept : (v w : Verdict) → first_of v w ≡ Accepted → (v ≡ Accepted) × (w ≡ Accepted)
+both_accept : (v w : Verdict) → first_of v w ≡ accepted → (v ≡ accepted) × (w ≡ accepted)
 unfolding first_of
-both_accept Accepted w e = (refl, e)
-both_accept (Rejected r p) w e = let z : ◌≡◌ {A = ℕ} 0 1 = cc in absurd (omega arith)
-both_accept (Refused n) w e = let z : ◌≡◌ {A = ℕ} 0 1 = cc in absurd (omega arith)
-both_accept (Reserved y p) w e = let z : ◌≡◌ {A = ℕ} 0 1 = cc in absurd (omega arith)
+both_accept (Ok u) w e = (refl, e)
+both_accept (Err (Rejected r p)) w e = let z : ◌≡◌ {A = ℕ} 0 1 = cc in absurd (omega arith)
+both_accept (Err (Refused n)) w e = let z : ◌≡◌ {A = ℕ} 0 1 = cc in absurd (omega arith)
+both_accept (Err (Reserved y p)) w e = let z : ◌≡◌ {A = ℕ} 0 1 = cc in absurd (omega arith)
 
 module _ (x : Submission) (map : List ℕ) where
   -- a pair at which a command starts by the map, or the end, in main
@@ -121,7 +123,7 @@ module _ (x : Submission) (map : List ℕ) where
   unfolding verdict_of
   one_of_three P a b c = search (either_first P)
 
-  all_accept : verdict_of x map ≡ Accepted → (bytes ≡ Accepted) × (start_verdict map ≡ Accepted) × (pairs ≡ Accepted)
+  all_accept : verdict_of x map ≡ accepted → (bytes ≡ accepted) × (start_verdict map ≡ accepted) × (pairs ≡ accepted)
   unfolding verdict_of
   all_accept e =
       let a = both_accept _ _ e in
@@ -129,16 +131,16 @@ module _ (x : Submission) (map : List ℕ) where
       (search, search, search)
 
   -- what they say where they are acceptance
-  no_place : (o : Option ℕ) → place_verdict o ≡ Accepted → o ≡ none
+  no_place : (o : Option ℕ) → place_verdict o ≡ accepted → o ≡ none
   unfolding place_verdict
   no_place none e = refl
   no_place (some p) e = let z : ◌≡◌ {A = ℕ} 0 1 = cc in absurd (omega arith)
 
-  started : length map ≡ size x → start_verdict map ≡ Accepted → 0 < size x → marked map 0 main ≡ true
+  started : length map ≡ size x → start_verdict map ≡ accepted → 0 < size x → marked map 0 main ≡ true
   unfolding start_verdict choose
   started same e l = go (marked map 0 main) (rw (ne_eqb (length map) 0 (omega arith)) at e)
     where
-      go : (b : Bool) → choose (not b) (Rejected (record { number = 2 }) 0) Accepted ≡ Accepted → b ≡ true
+      go : (b : Bool) → choose (not b) (Err (Rejected (record { number = 2 }) 0)) accepted ≡ accepted → b ≡ true
       go true e = refl
       go false e = let z : ◌≡◌ {A = ℕ} 0 1 = cc in absurd (omega arith)
 
@@ -150,12 +152,12 @@ module _ (x : Submission) (map : List ℕ) where
       go none q e = q
       go (some n) q e = absurd (false≢true (sym e))
 
-  no_pair : (o : Option ℕ) → lowest (refused_pair x map) (2 * size x) ≡ o → pair_verdict (numbered_pair x map o) ≡ Accepted → (k : ℕ) → k < 2 * size x → refused_pair x map k ≡ false
+  no_pair : (o : Option ℕ) → lowest (refused_pair x map) (2 * size x) ≡ o → pair_verdict (numbered_pair x map o) ≡ accepted → (k : ℕ) → k < 2 * size x → refused_pair x map k ≡ false
   unfolding numbered_pair pair_verdict refused_at refused_pair found?
   no_pair none q e = (lowest_none (refused_pair x map) (2 * size x)).0 q
   no_pair (some j) q e = go _ (at_mark x map (place_of j) (state_of j)) ((lowest_some (refused_pair x map) (2 * size x) j).0 q).1 e
     where
-      go : (a : Pair) (o : Option ℕ) → found? o ≡ true → pair_verdict (refused_at a o) ≡ Accepted → (k : ℕ) → k < 2 * size x → refused_pair x map k ≡ false
+      go : (a : Pair) (o : Option ℕ) → found? o ≡ true → pair_verdict (refused_at a o) ≡ accepted → (k : ℕ) → k < 2 * size x → refused_pair x map k ≡ false
       go a none h e = absurd (false≢true h)
       go a (some n) h e = let z : ◌≡◌ {A = ℕ} 0 1 = cc in absurd (omega arith)
 
@@ -167,7 +169,7 @@ module _ (x : Submission) (map : List ℕ) where
     λ h. (lowest_none (over_three map) (size x)).1 (λ p l. le-ltb _ _ (h p l)),
   )
 
-  pub clean : length map ≡ size x → verdict_of x map ≡ Accepted → Clean
+  pub clean : length map ≡ size x → verdict_of x map ≡ accepted → Clean
   unfolding first_refused refused_pair
   clean same e =
       let a = all_accept e in

@@ -9,6 +9,7 @@ use native.Mathlib.Omega.{arith}
 use lib.Dec.{eqb}
 use lib.ListN.{length, get_or}
 use borrow.Author.Tests.{eqb-true, eqb-false, eq-eqb, ltb-false}
+use Rattle.std.specs.declared.result.Result.TheVariants.{Err}
 use Rattle.word.specs.First.{choose}
 use Rattle.word.specs.Lowest.{lowest, found?}
 use Rattle.word.specs.Reading.{parameter_count}
@@ -19,7 +20,8 @@ use Rattle.rules.specs.Next.{◌in_state◌}
 use Rattle.rules.specs.Reason.{NO_START, Submission, size, command_at, by_map, reason_at, no_map, flaw_at}
 use Rattle.rules.specs.Judging.{first_of, place_verdict, start_verdict, at_mark, place_of, state_of, refused_pair, numbered_pair, first_refused, pair_verdict, verdict_of}
 use Rattle.rules.specs.Path.{Next, Reached, origin, onward, Bad, flawed, amid, Exact}
-use Rattle.rules.specs.declared.judging.Verdict.TheVariants.{Accepted, Rejected}
+use Rattle.rules.specs.declared.judging.Unfit.TheVariants.{Rejected}
+use Rattle.rules.specs.Judging.{accepted}
 use Rattle.rules.proofs.Cases.{Arrived, quiet}
 use Rattle.rules.proofs.Clean.{fine, Clean, none_wide, mark_none, unstarted}
 
@@ -95,18 +97,18 @@ module _ (x : Submission) where
         mark_quiet : (p : ℕ) (s : Bool) → p < size x → found? (at_mark x map p s) ≡ false
         mark_quiet p s l = mark_none x map p s (λ m. reached_quiet p s ((exact_marks p s l).0 m))
 
-        start_quiet : start_verdict map ≡ Accepted
+        start_quiet : start_verdict map ≡ accepted
         unfolding start_verdict choose
         start_quiet = go (eqb (length map) 0) refl
           where
-            go : (b : Bool) → eqb (length map) 0 ≡ b → choose (not b && not (marked map 0 main)) (Rejected (record { number = NO_START }) 0) Accepted ≡ Accepted
+            go : (b : Bool) → eqb (length map) 0 ≡ b → choose (not b && not (marked map 0 main)) (Err (Rejected (record { number = NO_START }) 0)) accepted ≡ accepted
             go true e = refl
             go false e =
                 let n = eqb-false (length map) 0 e in
                 let l : 0 < size x = omega (arith, exact.bytes) in
                 rw ((exact_marks 0 main l).1 (origin l))
 
-        pub complete_verdict : verdict_of x map ≡ Accepted
+        pub complete_verdict : verdict_of x map ≡ accepted
         unfolding verdict_of first_of place_verdict first_refused numbered_pair pair_verdict refused_pair
         complete_verdict =
             let narrow = (none_wide x map).1 exact.narrow in

@@ -29,7 +29,7 @@ use Rattle.rules.specs.Judging.{judge_cases, first_of, place_verdict, start_verd
 use Rattle.rules.specs.Path.{OneOf, Reached, origin, onward}
 use Rattle.rules.specs.Examples.{Example, nothing, everything, byte_alone, printed, subroutine, over, old_over, conditional, countless, subchannel_one, three_parameters, up_to_the_last, past_the_last, call_past, Examples}
 use Rattle.rules.specs.declared.pair.Pair.{Pair}
-use Rattle.rules.specs.declared.judging.Verdict.TheVariants.{Accepted}
+use Rattle.rules.specs.Judging.{accepted}
 use Rattle.rules.proofs.Scans.{found_plain}
 use Rattle.rules.proofs.Table.{fits, sized}
 use Rattle.rules.proofs.Clean.{numbered, clean}
@@ -100,7 +100,7 @@ module _ (level : ℕ) (sli : Bool) (bytes map list : List ℕ) where
   abbrev given : Submission
   given = submission (setting_of level sli) bytes list
 
-  example : first (judge_cases 1048576 level sli bytes map list) ≡ none → verdict_of given map ≡ Accepted → followed given map ≡ true → Example level sli bytes map list
+  example : first (judge_cases 1048576 level sli bytes map list) ≡ none → verdict_of given map ≡ accepted → followed given map ≡ true → Example level sli bytes map list
   unfolding marked
   example table accepted all =
       let fit = fits 1048576 level sli bytes map list table in

@@ -7,7 +7,7 @@ use mathlib.Core.Logic.Iff
 use mathlib.Core.Logic.{◌↔◌}
 use native.Mathlib.Omega.{arith}
 use lib.Dec.{ltb}
-use borrow.Author.Tests.{le-leb, ltb-false}
+use borrow.Author.Tests.{le-leb, lt-ltb, ltb-false}
 use Rattle.word.specs.First.{choose}
 use Rattle.word.specs.Lowest.{lowest, found?}
 use Rattle.word.specs.Reading.{number, values, parameter_count}
@@ -19,6 +19,7 @@ use Rattle.word.proofs.First.{by_test}
 use Rattle.word.proofs.Lowest.{none_found}
 use Rattle.word.proofs.Tests.{and_plain, less_plain}
 use Rattle.word.proofs.Told.{told_unreserved}
+use Rattle.rules.specs.Permit.{permits}
 use Rattle.rules.specs.Parameters.{methods_of, method_for, wraps, any_fails, lacking, denied}
 use Rattle.rules.specs.Reasons.{GoesTo, increasing, non_increasing, long, WrapsPlain}
 use Rattle.rules.specs.declared.parameters.Methods.{Methods}
@@ -71,6 +72,22 @@ above_special ms n low up level =
 pub none_fails : (setting : Setting) (list : List ℕ) (d : Reading) → parameter_count d ≡ 0 → (wraps d ≡ false) × (lacking setting d ≡ false) × (denied list d ≡ false)
 unfolding wraps lacking denied any_fails lowest found?
 none_fails setting list d e = rw e (and-false (methods_of d).increasing, refl, refl)
+
+-- A command that is taken apart, into its count and its methods:
+module _ (d : Reading) {count : ℕ} {ms : Methods} (counted : count ≡ parameter_count d) (goes : ms ≡ methods_of d) where
+  -- with a parameter it wraps where they go too far;
+  pub wraps_by : (count ≡ 0 → ⊥) → {b : Bool} → ms.increasing && ltb 2048 (ms.method + count) ≡ b → wraps d ≡ b
+  unfolding wraps
+  wraps_by some e = let least : 0 < count = omega arith in rw (← counted, ← goes, lt-ltb 0 count least) e
+
+  -- the level lacks the method of one, or the list denies it
+  pub lacking_by : (setting : Setting) {b : Bool} → any_fails (present_of setting.level.number) ms count ≡ b → lacking setting d ≡ b
+  unfolding lacking
+  lacking_by setting e = rw (← counted, ← goes) e
+
+  pub denied_by : (list : List ℕ) {b : Bool} → any_fails (permits list ms.subchannel) ms count ≡ b → denied list d ≡ b
+  unfolding denied
+  denied_by list e = rw (← counted, ← goes) e
 
 -- whether a test of methods fails at the method of parameter k
 unfoldable pub fails : (ℕ → Bool) → Methods → ℕ → Bool

@@ -26,6 +26,7 @@ use Rattle.pusher.specs.Moving.{Role, halted, faults, counts, submits, commands,
 use Rattle.pusher.specs.declared.record.Setup.{Setup}
 use Rattle.pusher.specs.declared.record.Run.{Run}
 use Rattle.pusher.specs.declared.record.Subroutine.{Subroutine}
+use Rattle.std.specs.declared.option.Option.{Option}
 use Rattle.pusher.specs.declared.record.PusherError.{PusherError}
 use Rattle.pusher.specs.declared.record.Pusher.{Pusher}
 use Rattle.pusher.specs.declared.moving.Pushed.{Pushed}
@@ -65,7 +66,7 @@ module _ (x : Submission) (map : List ℕ) where
   -- The invariant, of a pusher's parts: the read address is at a place, and the command after the parameters that are left starts
   -- at a pair that the map marks, or is the end in main; a subroutine returns to such a place in main; and each parameter that is
   -- left has a method that the level has and the list permits, and is no start.
-  pub record Keeps (get put : ℕ) (error : PusherError) (run : Run) (sub : Subroutine) : Type 0 where
+  pub record Keeps (get put : ℕ) (error : Option PusherError) (run : Run) (sub : Subroutine) : Type 0 where
     pub place : ℕ
     pub address : get ≡ 4 * place
     pub end : put ≡ 4 * size x

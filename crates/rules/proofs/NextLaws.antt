@@ -2,7 +2,7 @@
 use Prim.Native.Nat.{ℕ, ◌+◌, ◌/◌, ◌≤◌}
 use mathlib.Core.Path.{◌≡◌, refl}
 use mathlib.Core.Bool.{Bool}
-use mathlib.Core.List.{List, [], ◌∷◌}
+use mathlib.Core.List.{[], ◌∷◌}
 use native.Mathlib.Omega.{arith}
 use Rattle.word.specs.Reading.{number, values}
 use Rattle.word.specs.declared.reading.Reading.{Reading}
@@ -10,8 +10,8 @@ use Rattle.word.specs.declared.reading.Reading.TheVariants.{Increasing, NonIncre
 use Rattle.rules.specs.Map.{main, inside}
 use Rattle.rules.specs.Parameters.{place_after}
 use Rattle.rules.specs.Next.{◌in_state◌, nexts, held}
+use Rattle.rules.specs.Next.{pair_in, pairs_in}
 use Rattle.rules.specs.Reasons.{NextsPlain, Gives}
-use Rattle.rules.specs.declared.pair.Pair.{Pair}
 
 module _ (p : ℕ) (s : Bool) (d : Reading) where
   other : number d ≤ 3 → NextsPlain d p s (place_after d p in_state s ∷ [])
@@ -67,20 +67,30 @@ nexts_plain (Call t) p s = calls p s (Call t) t refl refl
 nexts_plain (Reserved y) p s = nowhere p s (Reserved y) (omega arith) (λ l. omega arith)
 nexts_plain (Refused r) p s = nowhere p s (Refused r) (omega arith) (λ l. omega arith)
 
--- the answer gives them, and they are at most two
-pub gives : (qs : List Pair) → Gives qs (held qs)
-unfolding held
-gives qs = record { count = refl; first = refl; second = refl }
-
-pub at_most_two : (d : Reading) (p : ℕ) (s : Bool) → (held (nexts d p s)).count ≤ 2
+-- the answer gives them: they are at most two
+pub gives : (d : Reading) (p : ℕ) (s : Bool) → Gives (nexts d p s) (held (nexts d p s))
 unfolding nexts held
-at_most_two (Increasing c b m) p s = omega arith
-at_most_two (NonIncreasing c b m) p s = omega arith
-at_most_two (Sli k) p s = omega arith
-at_most_two Return p s = omega arith
-at_most_two (Long b m c) p s = omega arith
-at_most_two (OldJump t) p s = omega arith
-at_most_two (Jump t) p s = omega arith
-at_most_two (Call t) p s = omega arith
-at_most_two (Reserved y) p s = omega arith
-at_most_two (Refused r) p s = omega arith
+gives (Increasing c b m) p s = record { most = omega arith; first = refl; second = refl }
+gives (NonIncreasing c b m) p s = record { most = omega arith; first = refl; second = refl }
+gives (Sli k) p s = record { most = omega arith; first = refl; second = refl }
+gives Return p s = record { most = omega arith; first = refl; second = refl }
+gives (Long b m c) p s = record { most = omega arith; first = refl; second = refl }
+gives (OldJump t) p s = record { most = omega arith; first = refl; second = refl }
+gives (Jump t) p s = record { most = omega arith; first = refl; second = refl }
+gives (Call t) p s = record { most = omega arith; first = refl; second = refl }
+gives (Reserved y) p s = record { most = omega arith; first = refl; second = refl }
+gives (Refused r) p s = record { most = omega arith; first = refl; second = refl }
+
+-- and holds no others
+pub held_pairs : (d : Reading) (p : ℕ) (s : Bool) → pairs_in (held (nexts d p s)) ≡ nexts d p s
+unfolding nexts held pairs_in pair_in
+held_pairs (Increasing c b m) p s = refl
+held_pairs (NonIncreasing c b m) p s = refl
+held_pairs (Sli k) p s = refl
+held_pairs Return p s = refl
+held_pairs (Long b m c) p s = refl
+held_pairs (OldJump t) p s = refl
+held_pairs (Jump t) p s = refl
+held_pairs (Call t) p s = refl
+held_pairs (Reserved y) p s = refl
+held_pairs (Refused r) p s = refl

@@ -1,26 +1,31 @@
 -- The promises, each proved under its name. (Those that take more than a few lines stand in files of their own: Reasons, SoundMoves,
 -- Sound, ExactIsOne, Examples.) Assumes nothing.
 use Prim.Native.Nat.{ℕ, ◌*◌, ◌/◌, ◌%◌, ◌≤◌}
-use mathlib.Core.Path.{◌≡◌, refl, sym, ◌∙◌}
+use mathlib.Core.Path.{◌≡◌, refl, sym, ap, ◌∙◌}
 use mathlib.Core.Bool.{Bool, true}
 use mathlib.Core.List.{List}
 use mathlib.Core.Logic.{◌↔◌}
 use mathlib.Core.Option.{Option, none, some}
 use native.Mathlib.Omega.{arith}
 use lib.ListN.{length}
+use Rattle.std.specs.declared.option.Option as code
+use Rattle.std.specs.declared.option.Option.TheVariants.{None, Some}
 use Rattle.word.specs.First.{first, FirstIs}
 use Rattle.word.specs.declared.setting.Refusal.{Refusal}
-use Rattle.word.proofs.First.{by_test, one_outcome}
+use Rattle.word.proofs.First.{by_test, one_outcome, first_is}
 use Rattle.word.proofs.Settings.{told_first, told_plain}
 use Rattle.channel.proofs.Refusals.{refused_is, accepted_is}
 use Rattle.rules.specs.Reason.{Submission, submission}
 use Rattle.rules.specs.Judging.{judge_cases, place_verdict, start_verdict, pair_verdict, verdict_of, refusing, setting_of, judged, judge_up_to}
-use Rattle.rules.specs.Answers.{number, verdict_refusal}
+use Rattle.rules.specs.Answers.{submit_refusal, number, verdict_refusal}
+use Rattle.rules.specs.Outcomes.{HandsIn}
+use Rattle.rules.specs.declared.submission.Submission as code_submission
+use Rattle.std.specs.declared.result.Result.{Result}
+use Rattle.std.specs.declared.result.Result.TheVariants.{Ok, Err}
 use Rattle.rules.specs.Promises.{judge_plain, Lengths, Refused, One, Counted, Complete, NoneBad}
 use Rattle.rules.specs.Reasons.{Submitted}
 use Rattle.rules.specs.declared.judging.FirstRefused.{FirstRefused}
-use Rattle.rules.specs.declared.judging.FirstRefused.TheVariants.{Nothing, At}
-use Rattle.rules.specs.declared.judging.Verdict.{Verdict}
+use Rattle.rules.specs.Judging.{Verdict}
 use Rattle.rules.specs.declared.judging.Judgement.{Judgement}
 use Rattle.word.proofs.Bytes.{words_length}
 use Rattle.rules.proofs.Answers.{accepts, refusal_kept, accepted_kept}
@@ -40,10 +45,13 @@ tells_number n = refl
 pub one : One
 one =
     record {
+      counts = λ setting bytes list a b. one_outcome;
+      reads_at = λ setting bytes list p a b. one_outcome;
       own_reason = λ setting bytes list d p s a b. one_outcome;
       marked_among = λ map p c a b. one_outcome;
       arrival = λ n q lacks a b. one_outcome;
       nexts = λ d p s a b. one_outcome;
+      command_reason = λ setting bytes list m d p s ns a b. one_outcome;
       first_refused = λ setting bytes map list a b. one_outcome;
       no_such_lengths = λ bytes map list a b. one_outcome;
       judge = λ level sli bytes map list a b. one_outcome;
@@ -59,6 +67,13 @@ submitted =
       lent = λ s bytes list. (refl, refl, refl);
       how_many = λ s bytes list. words_length bytes;
       command = λ s bytes list p w r lent reads. sym (rw lent at reads);
+      counts = λ s bytes list n is. is ∙ words_length bytes;
+      reads_at = λ s bytes list p w d r lent reads is. is ∙ sym (rw lent at reads);
+      submits = λ most level sli bytes map list x is. (
+        ap (λ (y : Submission). y.setting) is.1,
+        is.2,
+        ap (λ (y : Submission). y.permit) is.1,
+      );
     }
 
 -- a judgement that is made refuses nothing
@@ -67,10 +82,10 @@ unfolding place_verdict verdict_refusal
 place_tells none = refl
 place_tells (some p) = refl
 
-pair_tells : (f : FirstRefused) → verdict_refusal (pair_verdict f) ≡ none
+pair_tells : (f : code.Option FirstRefused) → verdict_refusal (pair_verdict f) ≡ none
 unfolding pair_verdict verdict_refusal
-pair_tells Nothing = refl
-pair_tells (At r q) = refl
+pair_tells None = refl
+pair_tells (Some f) = refl
 
 module _ (x : Submission) (map : List ℕ) where
   start_tells : verdict_refusal (start_verdict map) ≡ none
@@ -110,8 +125,21 @@ module _ (most level : ℕ) (sli : Bool) (bytes map list : List ℕ) (r : Judgem
   sized : level ≤ 5 → (sli ≡ true → 3 ≤ level) → length bytes ≤ 4 * most → length bytes % 4 ≡ 0 → length map ≡ length bytes / 4 → length list ≡ 2048 → tells r ≡ none
   sized a b c d e f = none_told (tells r) (judge_plain most level sli bytes map list) exactly (unrefused most level sli bytes map list a b c d e f)
 
+-- what is submitted tells of the table too
+submit_tells : (most level : ℕ) (sli : Bool) (bytes map list : List ℕ) (r : Result code_submission.Submission Refusal) → HandsIn most level sli bytes map list r → submit_refusal r ≡ first (judge_cases most level sli bytes map list)
+unfolding submit_refusal
+submit_tells most level sli bytes map list (Ok x) is = sym is.0
+submit_tells most level sli bytes map list (Err n) is = sym is
+
 pub refused : Refused
-refused = record { exactly = exactly _; nothing_else = nothing_else _ }
+refused =
+    record {
+      exactly = exactly _;
+      nothing_else = nothing_else _;
+      submitting = λ most level sli bytes map list r is n.
+          rw (submit_tells most level sli bytes map list r is)
+          (first_is (judge_cases most level sli bytes map list) (judge_plain most level sli bytes map list) (judge_agree most level sli bytes map list) n);
+    }
 
 pub counted : Counted
 counted level sli bytes map list r h j e = rw (judged_is _ level sli bytes map list r j e) (count_pairs list h)

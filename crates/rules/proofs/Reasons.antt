@@ -10,6 +10,9 @@ use native.Mathlib.Omega.{arith}
 use lib.Dec.{eqb, ltb}
 use lib.ListN.{length, get_or, get_or-eq_default}
 use borrow.Author.Tests.{eqb-true, eq-eqb, ne_eqb, ltb-true, ltb-false, lt-ltb, le-ltb, not-true}
+use Rattle.std.specs.declared.option.Option as code
+use Rattle.std.specs.declared.option.Option.TheVariants.{None, Some}
+use Rattle.std.specs.declared.result.Result.TheVariants.{Err}
 use Rattle.word.specs.First.{choose, Case, first, ◌when◌, PlainCase, ◌if◌, FirstIs}
 use Rattle.word.specs.Lowest.{lowest, found?}
 use Rattle.word.specs.Reading.{number, parameter_count}
@@ -22,38 +25,39 @@ use Rattle.word.proofs.Tests.{not_plain, or_plain, and_plain, less_plain, equal_
 use Rattle.rules.specs.Permit.{permits}
 use Rattle.rules.specs.Map.{main, marked, unmarked, over_three, starts, among}
 use Rattle.rules.specs.Parameters.{place_after, methods_of, method_for, any_fails, lacking, denied}
-use Rattle.rules.specs.Next.{◌in_state◌, nexts}
-use Rattle.rules.specs.Reason.{MAP_BYTE, NO_START, MARKED_PARAMETER, reserved?, call?, return?, own_cases, arrival_cases, next_cases, by_map, no_map, command_cases, Submission, submission, size, command_at, first_reason, reason_at, finding_of}
-use Rattle.rules.specs.Judging.{first_of, place_verdict, start_verdict, at_mark, place_of, state_of, refused_pair, refused_at, numbered_pair, first_refused, pair_verdict, verdict_of, setting_of}
+use Rattle.rules.specs.Next.{◌in_state◌, nexts, held}
+use Rattle.rules.specs.Reason.{MAP_BYTE, NO_START, MARKED_PARAMETER, reserved?, call?, return?, own_cases, arrival_cases, next_cases, MapTests, by_map, no_map, cases_by, command_cases, Submission, submission, size, command_at, first_reason, reason_at, finding_of}
+use Rattle.rules.specs.Judging.{first_of, place_verdict, start_verdict, at_mark, place_of, state_of, ◌refuses◌, refused_pair, refused_at, numbered_pair, first_refused, pair_verdict, verdict_of, setting_of}
 use Rattle.rules.specs.Answers.{finding_number, verdict_why}
+use Rattle.rules.specs.Next.{pairs_in}
 use Rattle.rules.specs.Promises.{Permitted}
 use Rattle.rules.specs.Reasons.{Marks, GoesTo, own_plain, AmongPlain, arrival_plain, next_plain, command_plain, pair_plain, WideByte, NoneWide, NoStart, Earlier, FirstPair, Against, Reasons, FirstPairs, AtOnePair}
 use Rattle.rules.specs.declared.pair.Pair.{Pair}
+use Rattle.rules.specs.declared.pair.Nexts.{Nexts}
 use Rattle.rules.specs.declared.reason.Reason.{Reason}
-use Rattle.rules.specs.declared.reason.Finding.{Finding}
 use Rattle.rules.specs.declared.judging.FirstRefused.{FirstRefused}
-use Rattle.rules.specs.declared.judging.FirstRefused.TheVariants.{Nothing, At}
-use Rattle.rules.specs.declared.judging.Verdict.{Verdict}
-use Rattle.rules.specs.declared.judging.Verdict.TheVariants.{Accepted, Rejected}
+use Rattle.rules.specs.Judging.{Verdict}
+use Rattle.rules.specs.declared.judging.Unfit.TheVariants.{Rejected}
+use Rattle.rules.specs.Judging.{accepted}
 use Rattle.rules.proofs.Answers.{told_rejected, number_kept, values_kept, told_refused, finding_tells, none_tells}
 use Rattle.rules.proofs.Scans.{found_plain}
 use Rattle.rules.proofs.Parts.{permits_plain}
 use Rattle.rules.proofs.MethodLaws.{goes_to, goes_only, wraps_plain}
 use Rattle.rules.proofs.Cases.{none_own, arrived, quiet}
-use Rattle.rules.proofs.NextLaws.{nexts_plain, gives}
+use Rattle.rules.proofs.NextLaws.{nexts_plain, gives, held_pairs}
 use Rattle.rules.proofs.Clean.{numbered, none_wide, mark_none, one_of_three}
 use Rattle.rules.proofs.Promises.{judged_fits, judged_is}
 
 -- equal rejections have one reason and one place, and equal refused pairs are one pair with one reason
-rejected_same : (m n p q : ℕ) → Rejected (record { number = m }) p ≡ Rejected (record { number = n }) q → (m ≡ n) × (p ≡ q)
+rejected_same : (m n p q : ℕ) → ◌≡◌ {A = Verdict} (Err (Rejected (record { number = m }) p)) (Err (Rejected (record { number = n }) q)) → (m ≡ n) × (p ≡ q)
 rejected_same m n p q e =
     let reason : ◌≡◌ {A = Reason} (record { number = m }) (record { number = n }) = cc in
     (ap (λ (r : Reason). r.number) reason, cc)
 
-refused_same : (m n : ℕ) (p q : Pair) → At (record { number = m }) p ≡ At (record { number = n }) q → (m ≡ n) × (p ≡ q)
+refused_same : (m n : ℕ) (p q : Pair) → Some (m refuses p) ≡ Some (n refuses q) → (m ≡ n) × (p ≡ q)
 refused_same m n p q e =
-    let reason : ◌≡◌ {A = Reason} (record { number = m }) (record { number = n }) = cc in
-    (ap (λ (r : Reason). r.number) reason, cc)
+    let same : m refuses p ≡ n refuses q = cc in
+    (ap (λ (f : FirstRefused). f.reason.number) same, ap (λ (f : FirstRefused). f.pair) same)
 
 -- the forms, by their numbers
 reserved_plain : (d : Reading) → reserved? d ≡ true ↔ ((number d ≡ 5) ⊎ (9 ≤ number d))
@@ -192,7 +196,7 @@ module _ (x : Submission) (map : List ℕ) where
           inr (omega arith, ne_eqb (j % 2) 1 (omega arith), eq-eqb (k % 2) 1 (omega arith))
 
   -- a pair is the first that is refused exactly if its number is the lowest
-  pub pair_first : (n p : ℕ) (s : Bool) → first_refused x map ≡ At (record { number = n }) (p in_state s) ↔ FirstPair x map n p s
+  pub pair_first : (n p : ℕ) (s : Bool) → first_refused x map ≡ Some (n refuses (p in_state s)) ↔ FirstPair x map n p s
   unfolding first_refused numbered_pair refused_at refused_pair found?
   pair_first n p s = (λ e. go (lowest (refused_pair x map) (2 * size x)) refl e, back)
     where
@@ -202,7 +206,7 @@ module _ (x : Submission) (map : List ℕ) where
           → k < 2 * size x
           → found? o ≡ true
           → ((i : ℕ) → i < k → refused_pair x map i ≡ false)
-          → refused_at (place_of k in_state state_of k) o ≡ At (record { number = n }) (p in_state s)
+          → refused_at (place_of k in_state state_of k) o ≡ Some (n refuses (p in_state s))
           → FirstPair x map n p s
       take k none q l f b e = absurd (false≢true f)
       take k (some m) q l f b e =
@@ -220,11 +224,11 @@ module _ (x : Submission) (map : List ℕ) where
           } in
           subst (λ (y : Pair). FirstPair x map n y.place y.inside) c.1 (subst (λ (y : ℕ). FirstPair x map y (place_of k) (state_of k)) c.0 first)
 
-      go : (o : Option ℕ) → lowest (refused_pair x map) (2 * size x) ≡ o → numbered_pair x map o ≡ At (record { number = n }) (p in_state s) → FirstPair x map n p s
+      go : (o : Option ℕ) → lowest (refused_pair x map) (2 * size x) ≡ o → numbered_pair x map o ≡ Some (n refuses (p in_state s)) → FirstPair x map n p s
       go none q e = let z : ◌≡◌ {A = ℕ} 0 1 = cc in absurd (omega arith)
       go (some k) q e = let y = (lowest_some (refused_pair x map) (2 * size x) k).0 q in take k (at_mark x map (place_of k) (state_of k)) refl y.0 y.1 y.2 e
 
-      back : FirstPair x map n p s → numbered_pair x map (lowest (refused_pair x map) (2 * size x)) ≡ At (record { number = n }) (p in_state s)
+      back : FirstPair x map n p s → numbered_pair x map (lowest (refused_pair x map) (2 * size x)) ≡ Some (n refuses (p in_state s))
       back f =
           let k = numbered x map p s in
           let is : at_mark x map (place_of k.0) (state_of k.0) ≡ some n = rw (k.1, k.2) (mark_reason p s f.marked ∙ (reason_plain p s n).1 f.reason) in
@@ -234,13 +238,15 @@ module _ (x : Submission) (map : List ℕ) where
           rw (low, is, k.1, k.2)
 
   -- and then the verdict gives its reason and place
-  pair_verdict_lem : (n p : ℕ) → pair_verdict (first_refused x map) ≡ Rejected (record { number = n }) p ↔ ((s : Bool) × FirstPair x map n p s)
+  pair_verdict_lem : (n p : ℕ) → pair_verdict (first_refused x map) ≡ Err (Rejected (record { number = n }) p) ↔ ((s : Bool) × FirstPair x map n p s)
   unfolding pair_verdict
   pair_verdict_lem n p = (λ e. go (first_refused x map) refl e, λ f. rw ((pair_first n p f.0).1 f.1))
     where
-      go : (f : FirstRefused) → first_refused x map ≡ f → pair_verdict f ≡ Rejected (record { number = n }) p → (s : Bool) × FirstPair x map n p s
-      go Nothing is e = let z : ◌≡◌ {A = ℕ} 0 1 = cc in absurd (omega arith)
-      go (At r q) is e =
+      go : (f : code.Option FirstRefused) → first_refused x map ≡ f → pair_verdict f ≡ Err (Rejected (record { number = n }) p) → (s : Bool) × FirstPair x map n p s
+      go None is e = let z : ◌≡◌ {A = ℕ} 0 1 = cc in absurd (omega arith)
+      go (Some f) is e =
+          let r = f.reason in
+          let q = f.pair in
           let c = rejected_same r.number n q.place p e in
           (q.inside, subst (λ (y : ℕ). FirstPair x map n y q.inside) c.1 (subst (λ (y : ℕ). FirstPair x map y q.place q.inside) c.0 ((pair_first r.number q.place q.inside).0 is)))
 
@@ -285,7 +291,7 @@ module _ (x : Submission) (map : List ℕ) (same : length map ≡ size x) where
       go false e = e
 
   -- G25: a byte over 3 is the verdict; where there is none, it is the first of the other two
-  wide_first : (w : ℕ) → lowest (over_three map) (size x) ≡ some w → verdict_of x map ≡ Rejected (record { number = MAP_BYTE }) w
+  wide_first : (w : ℕ) → lowest (over_three map) (size x) ≡ some w → verdict_of x map ≡ Err (Rejected (record { number = MAP_BYTE }) w)
   unfolding verdict_of first_of place_verdict
   wide_first w q = rw q
 
@@ -293,19 +299,19 @@ module _ (x : Submission) (map : List ℕ) (same : length map ≡ size x) where
   unfolding verdict_of first_of place_verdict
   then_start q = rw q
 
-  pub verdict_plain : (n p : ℕ) → verdict_of x map ≡ Rejected (record { number = n }) p ↔ Against x map n p
+  pub verdict_plain : (n p : ℕ) → verdict_of x map ≡ Err (Rejected (record { number = n }) p) ↔ Against x map n p
   unfolding first_of start_verdict choose
   verdict_plain n p = (by_bytes (lowest (over_three map) (size x)) refl, back)
     where
-      by_start : (b : Bool) → startless ≡ b → NoneWide map → first_of (choose b (Rejected (record { number = NO_START }) 0) Accepted) pairs ≡ Rejected (record { number = n }) p → Against x map n p
+      by_start : (b : Bool) → startless ≡ b → NoneWide map → first_of (choose b (Err (Rejected (record { number = NO_START }) 0)) accepted) pairs ≡ Err (Rejected (record { number = n }) p) → Against x map n p
       by_start true t narrow e = let z = rejected_same NO_START n 0 p e in inr (narrow, inl (sym z.0, sym z.1, start_plain.0 t))
       by_start false t narrow e = inr (narrow, inr (λ h. false≢true (sym t ∙ start_plain.1 h), (pair_verdict_lem x map n p).0 e))
 
-      by_bytes : (o : Option ℕ) → lowest (over_three map) (size x) ≡ o → verdict_of x map ≡ Rejected (record { number = n }) p → Against x map n p
+      by_bytes : (o : Option ℕ) → lowest (over_three map) (size x) ≡ o → verdict_of x map ≡ Err (Rejected (record { number = n }) p) → Against x map n p
       by_bytes none q e = by_start startless refl (all_narrow ((none_wide x map).0 q)) (sym (then_start q) ∙ e)
       by_bytes (some w) q e = let z = rejected_same MAP_BYTE n w p (sym (wide_first w q) ∙ e) in inl (sym z.0, subst (λ (y : ℕ). WideByte x map y) z.1 ((wide_plain w).0 q))
 
-      back : Against x map n p → verdict_of x map ≡ Rejected (record { number = n }) p
+      back : Against x map n p → verdict_of x map ≡ Err (Rejected (record { number = n }) p)
       back (inl w) = wide_first p ((wide_plain p).1 w.1) ∙ rw w.0
       back (inr (narrow, inl h)) = then_start ((none_wide x map).1 (λ q l. narrow q)) ∙ rw (start_plain.1 h.2, h.0, h.1)
       back (inr (narrow, inr h)) = then_start ((none_wide x map).1 (λ q l. narrow q)) ∙ rw (started h.0) ((pair_verdict_lem x map n p).1 h.1)
@@ -316,10 +322,10 @@ unfolding place_verdict verdict_why
 place_mute none = refl
 place_mute (some p) = refl
 
-pair_mute : (f : FirstRefused) → verdict_why (pair_verdict f) ≡ none
+pair_mute : (f : code.Option FirstRefused) → verdict_why (pair_verdict f) ≡ none
 unfolding pair_verdict verdict_why
-pair_mute Nothing = refl
-pair_mute (At r q) = refl
+pair_mute None = refl
+pair_mute (Some f) = refl
 
 pub no_why : (x : Submission) (map : List ℕ) → verdict_why (verdict_of x map) ≡ none
 unfolding start_verdict verdict_why
@@ -334,7 +340,7 @@ reasons level sli bytes map list r j e n p =
     rw (is, number_kept x (verdict_of x map), values_kept x (verdict_of x map)) (λ h. plain.0 (told.0 h), λ h. told.1 (plain.1 h))
 
 -- what is found is the first condition that holds
-found_is : (cs : List Case) (ps : List PlainCase) → Agree cs ps → (r : Finding) → r ≡ finding_of (first cs) → (n : ℕ) → finding_number r ≡ some n ↔ FirstIs ps n
+found_is : (cs : List Case) (ps : List PlainCase) → Agree cs ps → (r : code.Option Reason) → r ≡ finding_of (first cs) → (n : ℕ) → finding_number r ≡ some n ↔ FirstIs ps n
 found_is cs ps a r e n =
     let is = first_is cs ps a n in
     rw (e, finding_tells (first cs)) is
@@ -346,7 +352,12 @@ first_pairs setting bytes map list r e n p s =
     let told = told_refused (first_refused x map) n p s in
     rw e (λ h. plain.0 (told.0 h), λ h. told.1 (plain.1 h))
 
+-- the reasons of a command, where the pairs at which the words go on are those that it has
+by_next : (m : MapTests) (x : Submission) (d : Reading) (p : ℕ) (s : Bool) {ns : Nexts} {r : code.Option Reason} → ns ≡ held (nexts d p s) → r ≡ finding_of (first (cases_by m x d p s (pairs_in ns))) → r ≡ finding_of (first (command_cases m x d p s))
+by_next m x d p s next is = rw (ap pairs_in next ∙ held_pairs d p s) at is
+
 pub at_one_pair : AtOnePair
+unfolding first_reason
 at_one_pair =
     record {
       own_reason = λ setting bytes list d p s r.
@@ -355,7 +366,13 @@ at_one_pair =
       marked_among = λ map p c r e. rw e (among_plain map p c);
       arrival = λ n q lacks r. found_is (arrival_cases n q lacks) (arrival_plain n q (lacks ≡ true)) (arrival_agree n q lacks Iff.rfl) r;
       next_pairs = nexts_plain;
-      answers_nexts = λ d p s r e. rw e (gives (nexts d p s));
+      answers_nexts = λ d p s r e. rw e (gives d p s);
+      command_reason = λ setting bytes map list d p s ns r next is.
+          let x = submission setting bytes list in
+          found_is (command_cases (by_map map) x d p s) (command_plain x map d p s) (pair_agree x map d p s) r (by_next (by_map map) x d p s next is);
+      flaw = λ setting bytes list p s ns r next is.
+          let x = submission setting bytes list in
+          rw (by_next no_map x (command_at x p) p s next is) (finding_tells _);
       path_rule = λ setting bytes list p s.
           let x = submission setting bytes list in
           let d = command_at x p in

@@ -9,6 +9,7 @@ use lib.Count.{ones-le}
 use lib.Dec.{ltb}
 use lib.ListN.{get_or}
 use borrow.Author.Tests.{ltb-true}
+use Rattle.std.specs.declared.result.Result.TheVariants.{Ok, Err}
 use Rattle.word.specs.First.{choose, Case, first}
 use Rattle.word.specs.Lowest.{lowest}
 use Rattle.word.specs.Setting.{refused_or}
@@ -22,8 +23,8 @@ use Rattle.rules.specs.Reason.{next_cases, by_map, command_cases, Submission, su
 use Rattle.rules.specs.Judging.{place_verdict, start_verdict, at_mark, place_of, state_of, refused_pair, refused_at, numbered_pair, first_refused, pair_verdict, verdict_of, with_why, judge_cases, refusing, setting_of, judged, judge_up_to}
 use Rattle.rules.specs.Promises.{Bytes}
 use Rattle.rules.specs.declared.pair.Pair.{Pair}
-use Rattle.rules.specs.declared.judging.Verdict.{Verdict}
-use Rattle.rules.specs.declared.judging.Verdict.TheVariants.{Accepted, Rejected, Refused, Reserved}
+use Rattle.rules.specs.Judging.{Verdict}
+use Rattle.rules.specs.declared.judging.Unfit.TheVariants.{Rejected, Refused, Reserved}
 use Rattle.rules.proofs.Table.{fits}
 use Rattle.rules.proofs.Clean.{one_of_three}
 
@@ -51,10 +52,10 @@ next_bytes lacks n (q ∷ qs) = next_bytes lacks n qs
 
 -- what an answer of the gatekeeper is within
 abbrev pub Small : Verdict → Type 0
-Small Accepted = Unit {0}
-Small (Rejected r p) = (0 < r.number) × (r.number < 2 ^ 8) × (p < 2 ^ 24)
-Small (Refused n) = (0 < n.number) × (n.number < 2 ^ 8)
-Small (Reserved y p) = p < 2 ^ 24
+Small (Ok u) = Unit {0}
+Small (Err (Rejected r p)) = (0 < r.number) × (r.number < 2 ^ 8) × (p < 2 ^ 24)
+Small (Err (Refused n)) = (0 < n.number) × (n.number < 2 ^ 8)
+Small (Err (Reserved y p)) = p < 2 ^ 24
 
 module _ (x : Submission) (map : List ℕ) (words : size x ≤ 2 ^ 24) where
   place_small : (o : Option ℕ) → lowest (over_three map) (size x) ≡ o → Small (place_verdict o)
@@ -95,10 +96,10 @@ module _ (x : Submission) (map : List ℕ) (words : size x ≤ 2 ^ 24) where
   -- so too with the why of reason 3
   why_small : (v : Verdict) → Small v → Small (with_why x v)
   unfolding with_why
-  why_small Accepted s = s
-  why_small (Rejected r p) s = by_test Small (λ t. s.2) (λ t. s)
-  why_small (Refused n) s = s
-  why_small (Reserved y p) s = s
+  why_small (Ok u) s = s
+  why_small (Err (Rejected r p)) s = by_test Small (λ t. s.2) (λ t. s)
+  why_small (Err (Refused n)) s = s
+  why_small (Err (Reserved y p)) s = s
 
 -- no byte has more than eight set bits
 count_small : (list : List ℕ) → Bytes list → (n : ℕ) → set_bits list n ≤ 8 * n

@@ -20,7 +20,7 @@ use Rattle.rules.specs.Reason.{submission}
 use Rattle.rules.specs.Judging.{length_refused, judge_cases, judged, verdict_of, refusing, setting_of, judge_up_to}
 use Rattle.rules.specs.Answers.{Accepts}
 use Rattle.rules.specs.Promises.{BadLengths, judge_plain, Sized}
-use Rattle.rules.specs.declared.judging.Verdict.TheVariants.{Accepted}
+use Rattle.rules.specs.Judging.{accepted}
 use Rattle.rules.specs.declared.judging.Judgement.{Judgement}
 use Rattle.word.proofs.Bytes.{words_length}
 use Rattle.rules.proofs.Answers.{accepts, accepted_kept}
@@ -105,15 +105,15 @@ module _ (most level : ℕ) (sli : Bool) (bytes map list : List ℕ) where
       (r : Judgement)
       → r ≡ judge_up_to most level sli bytes map list
       → Accepts r.verdict
-      → Fits × (verdict_of (submission (setting_of level sli) bytes list) map ≡ Accepted)
+      → Fits × (verdict_of (submission (setting_of level sli) bytes list) map ≡ accepted)
   unfolding judge_up_to refused_or
   passed r j a = go (first (judge_cases most level sli bytes map list)) refl (sym (ap (λ (y : Judgement). y.verdict) j) ∙ (accepts r.verdict).0 a)
     where
       go :
           (o : Option ℕ)
           → first (judge_cases most level sli bytes map list) ≡ o
-          → (refused_or refusing o (judged level sli bytes map list)).verdict ≡ Accepted
-          → Fits × (verdict_of (submission (setting_of level sli) bytes list) map ≡ Accepted)
+          → (refused_or refusing o (judged level sli bytes map list)).verdict ≡ accepted
+          → Fits × (verdict_of (submission (setting_of level sli) bytes list) map ≡ accepted)
       go none e h = (fits e, (accepted_kept (submission (setting_of level sli) bytes list) _).0 h)
       go (some n) e h = let z : ◌≡◌ {A = ℕ} 0 1 = cc in absurd (omega arith)
 

@@ -6,6 +6,7 @@ use mathlib.Core.List.{List, [], ◌∷◌}
 use mathlib.Core.Logic.{◌⊎◌, inl, inr, ⊎_elim}
 use mathlib.Core.Option.{Option, none, some, none-ne-some}
 use native.Mathlib.Omega.{arith}
+use Rattle.std.specs.declared.result.Result.TheVariants.{Ok, Err}
 use Rattle.word.specs.First.{choose, PlainCase, FirstIs, SomeHolds}
 use Rattle.word.specs.Reading as reading
 use Rattle.word.specs.Promises.{setting_plain}
@@ -20,8 +21,8 @@ use Rattle.rules.specs.Answers.{number, verdict_refusal, values, verdict_why}
 use Rattle.rules.specs.Outcomes.{Judges}
 use Rattle.rules.specs.Reasons.{next_plain, command_plain, Against, Whys}
 use Rattle.rules.specs.declared.pair.Pair.{Pair}
-use Rattle.rules.specs.declared.judging.Verdict.{Verdict}
-use Rattle.rules.specs.declared.judging.Verdict.TheVariants.{Accepted, Rejected, Refused, Reserved}
+use Rattle.rules.specs.Judging.{Verdict}
+use Rattle.rules.specs.declared.judging.Unfit.TheVariants.{Rejected, Refused, Reserved}
 use Rattle.rules.specs.declared.judging.Judgement.{Judgement}
 use Rattle.rules.proofs.Answers.{told_rejected, number_kept, values_kept}
 use Rattle.rules.proofs.Promises.{refused, judged_fits, judged_is}
@@ -67,7 +68,7 @@ module _ (s : Setting) (style : s.mode.number ≡ 0) (w : ℕ) (fine : SomeHolds
       ⊎_elim (λ e. absurd (not_long e)) (λ n. omega arith) h
 
 -- the why of a verdict that is a rejection
-why_given : (x : Submission) (v : Verdict) (p : ℕ) → v ≡ Rejected (record { number = 3 }) p → reading.number (command_at x p) ≡ 9 → verdict_why (with_why x v) ≡ reading.why (command_at x p)
+why_given : (x : Submission) (v : Verdict) (p : ℕ) → v ≡ Err (Rejected (record { number = 3 }) p) → reading.number (command_at x p) ≡ 9 → verdict_why (with_why x v) ≡ reading.why (command_at x p)
 unfolding with_why verdict_why choose
 why_given x v p e nine = rw e (why_back (command_at x p) nine)
 
@@ -97,7 +98,7 @@ module _ (level : ℕ) (sli : Bool) (bytes map list : List ℕ) (r : Judgement) 
   at_place p e v =
       let h = given e in
       let is : r.verdict ≡ with_why x (verdict_of x map) = ap (λ (y : Judgement). y.verdict) (judged_is _ level sli bytes map list r j h) in
-      let told : verdict_of x map ≡ Rejected (record { number = 3 }) p =
+      let told : verdict_of x map ≡ Err (Rejected (record { number = 3 }) p) =
       (told_rejected (verdict_of x map) 3 p (no_why x map)).0 (sym (number_kept x _) ∙ ap number (sym is) ∙ e, sym (values_kept x _) ∙ ap values (sym is) ∙ v) in
       let reserved = nine p ((verdict_plain x map (judged_fits _ level sli bytes map list r j h).bytes_map 3 p).0 told) h in
       (ap verdict_why is ∙ why_given x (verdict_of x map) p told reserved, reserved)
@@ -105,17 +106,17 @@ module _ (level : ℕ) (sli : Bool) (bytes map list : List ℕ) (r : Judgement) 
 -- a verdict with a why has reason 3, and one with a reason has a place
 reason_three : (v : Verdict) → (number v ≡ some 3 → ⊥) → verdict_why v ≡ none
 unfolding number verdict_why
-reason_three Accepted h = refl
-reason_three (Rejected r p) h = refl
-reason_three (Refused n) h = refl
-reason_three (Reserved y p) h = absurd (h refl)
+reason_three (Ok u) h = refl
+reason_three (Err (Rejected r p)) h = refl
+reason_three (Err (Refused n)) h = refl
+reason_three (Err (Reserved y p)) h = absurd (h refl)
 
 placed : (v : Verdict) (n : ℕ) → number v ≡ some n → (p : ℕ) × (values v ≡ p ∷ [])
 unfolding number values
-placed Accepted n e = absurd (none-ne-some n e)
-placed (Rejected r p) n e = (p, refl)
-placed (Refused m) n e = absurd (none-ne-some n e)
-placed (Reserved y p) n e = (p, refl)
+placed (Ok u) n e = absurd (none-ne-some n e)
+placed (Err (Rejected r p)) n e = (p, refl)
+placed (Err (Refused m)) n e = absurd (none-ne-some n e)
+placed (Err (Reserved y p)) n e = (p, refl)
 
 pub whys : Whys
 whys =

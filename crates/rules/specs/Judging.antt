@@ -1,6 +1,10 @@
 -- The judgement.
 use Rattle.std.specs.Prelude.{ℕ, ◌*◌, ◌/◌, ◌%◌, Bool, not, ◌&&◌, ◌||◌, List, [], ◌∷◌, eqb, ltb, length}
+use Rattle.std.specs.declared.option.Option as code
+use Rattle.std.specs.declared.option.Option.TheVariants.{None, Some}
 use Rattle.std.proofs.Math.Option.{Option, none, some}
+use Rattle.std.specs.declared.result.Result.{Result}
+use Rattle.std.specs.declared.result.Result.TheVariants.{Ok, Err}
 use Rattle.word.specs.First.{choose, Case, first, ◌when◌}
 use Rattle.word.specs.Lowest.{lowest, found?}
 use Rattle.word.specs.Why.{why_of}
@@ -14,9 +18,8 @@ use Rattle.rules.specs.Next.{◌in_state◌}
 use Rattle.rules.specs.Reason.{MAP_BYTE, NO_START, RESERVED, Submission, submission, size, command_at, reason_at}
 use Rattle.rules.specs.declared.pair.Pair.{Pair}
 use Rattle.rules.specs.declared.judging.FirstRefused.{FirstRefused}
-use Rattle.rules.specs.declared.judging.FirstRefused.TheVariants.{Nothing, At}
-use Rattle.rules.specs.declared.judging.Verdict.{Verdict}
-use Rattle.rules.specs.declared.judging.Verdict.TheVariants.{Accepted, Rejected, Refused, Reserved}
+use Rattle.rules.specs.declared.judging.Unfit.{Unfit}
+use Rattle.rules.specs.declared.judging.Unfit.TheVariants.{Rejected, Refused, Reserved}
 use Rattle.rules.specs.declared.judging.Judgement.{Judgement}
 
 -- R9: the lengths of words, map and list that don't fit
@@ -32,21 +35,26 @@ judge_cases most level sli bytes map list =
     ∷ LENGTH when length_refused (length bytes) (length map) (length list)
     ∷ []
 
--- G25: the verdict: the first of two that is no acceptance
+-- G25: the verdict: that the submission is accepted, or why not
+abbrev pub Verdict : Type 0
+Verdict = Result (Unit {0}) Unfit
+
+abbrev pub accepted : Verdict
+accepted = Ok tt
+
+-- G25: the first of two that is no acceptance
 unfoldable pub first_of : Verdict → Verdict → Verdict
-first_of Accepted v = v
-first_of (Rejected r p) v = Rejected r p
-first_of (Refused n) v = Refused n
-first_of (Reserved y p) v = Reserved y p
+first_of (Ok u) v = v
+first_of (Err n) v = Err n
 
 -- G1: a byte over 3, at its place
 unfoldable pub place_verdict : Option ℕ → Verdict
-place_verdict none = Accepted
-place_verdict (some p) = Rejected (record { number = MAP_BYTE }) p
+place_verdict none = accepted
+place_verdict (some p) = Err (Rejected (record { number = MAP_BYTE }) p)
 
 -- G2, G30: place 0, if there is a word
 unfoldable pub start_verdict : List ℕ → Verdict
-start_verdict map = choose (not (eqb (length map) 0) && not (marked map 0 main)) (Rejected (record { number = NO_START }) 0) Accepted
+start_verdict map = choose (not (eqb (length map) 0) && not (marked map 0 main)) (Err (Rejected (record { number = NO_START }) 0)) accepted
 
 -- G25: the reason of a pair that the map marks
 unfoldable pub at_mark : Submission → List ℕ → ℕ → Bool → Option ℕ
@@ -62,23 +70,27 @@ state_of k = eqb (k % 2) 1
 unfoldable pub refused_pair : Submission → List ℕ → ℕ → Bool
 refused_pair x map k = found? (at_mark x map (place_of k) (state_of k))
 
--- a pair with its reason, if it has one; and the pair of a number, if there is one, with its reason
-unfoldable pub refused_at : Pair → Option ℕ → FirstRefused
-refused_at q none = Nothing
-refused_at q (some n) = At (record { number = n }) q
+infix 70 ◌refuses◌
+abbrev pub ◌refuses◌ : ℕ → Pair → FirstRefused
+n refuses q = record { reason = record { number = n }; pair = q }
 
-unfoldable pub numbered_pair : Submission → List ℕ → Option ℕ → FirstRefused
-numbered_pair x map none = Nothing
+-- a pair with its reason, if it has one; and the pair of a number, if there is one, with its reason
+unfoldable pub refused_at : Pair → Option ℕ → code.Option FirstRefused
+refused_at q none = None
+refused_at q (some n) = Some (n refuses q)
+
+unfoldable pub numbered_pair : Submission → List ℕ → Option ℕ → code.Option FirstRefused
+numbered_pair x map none = None
 numbered_pair x map (some k) = refused_at (place_of k in_state state_of k) (at_mark x map (place_of k) (state_of k))
 
 -- G25: the first pair that is refused
-unfoldable pub first_refused : Submission → List ℕ → FirstRefused
+unfoldable pub first_refused : Submission → List ℕ → code.Option FirstRefused
 first_refused x map = numbered_pair x map (lowest (refused_pair x map) (2 * size x))
 
 -- G31: of which the verdict gives the place
-unfoldable pub pair_verdict : FirstRefused → Verdict
-pair_verdict Nothing = Accepted
-pair_verdict (At r q) = Rejected r q.place
+unfoldable pub pair_verdict : code.Option FirstRefused → Verdict
+pair_verdict None = accepted
+pair_verdict (Some f) = Err (Rejected f.reason f.pair.place)
 
 -- G25, G31: map bytes, start, pairs
 unfoldable pub verdict_of : Submission → List ℕ → Verdict
@@ -88,14 +100,14 @@ verdict_of x map =
 
 -- G40: reason 3 says why the word at its place is reserved; the rest of a verdict stays
 unfoldable pub with_why : Submission → Verdict → Verdict
-with_why x Accepted = Accepted
-with_why x (Rejected r p) = choose (eqb r.number RESERVED) (Reserved (why_of (why (command_at x p))) p) (Rejected r p)
-with_why x (Refused n) = Refused n
-with_why x (Reserved y p) = Reserved y p
+with_why x (Ok u) = accepted
+with_why x (Err (Rejected r p)) = choose (eqb r.number RESERVED) (Err (Reserved (why_of (why (command_at x p))) p)) (Err (Rejected r p))
+with_why x (Err (Refused n)) = Err (Refused n)
+with_why x (Err (Reserved y p)) = Err (Reserved y p)
 
 -- G24: a refusal has count 0
 abbrev pub refusing : Refusal → Judgement
-refusing n = record { verdict = Refused n; count = 0 }
+refusing n = record { verdict = Err (Refused n); count = 0 }
 
 -- G21: the setting, always NV04-style
 abbrev pub setting_of : ℕ → Bool → Setting

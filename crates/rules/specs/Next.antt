@@ -1,5 +1,6 @@
 -- The pairs at which the words go on after a command.
-use Rattle.std.specs.Prelude.{ℕ, ◌+◌, ◌/◌, Bool, List, [], ◌∷◌, length, get_or}
+use Rattle.std.specs.Prelude.{ℕ, ◌+◌, ◌/◌, Bool, List, [], ◌∷◌, ◌++◌, Option}
+use Rattle.std.specs.declared.option.Option.TheVariants.{None, Some}
 use Rattle.word.specs.declared.reading.Reading.{Reading}
 use Rattle.word.specs.declared.reading.Reading.TheVariants.{Increasing, NonIncreasing, Sli, Return, Long, OldJump, Jump, Call, Reserved, Refused}
 use Rattle.rules.specs.Map.{main, inside}
@@ -24,6 +25,16 @@ nexts (Call t) p s = (t / 4) in_state inside ∷ (p + 1) in_state main ∷ []
 nexts (Reserved y) p s = []
 nexts (Refused r) p s = []
 
--- as `nexts` answers them: how many, and the first two; one that is not there is place 0 in main
+-- as `nexts` answers them: the first two
 unfoldable pub held : List Pair → Nexts
-held qs = record { count = length qs; first = get_or qs 0 (0 in_state main); second = get_or qs 1 (0 in_state main) }
+held [] = record { first = None; second = None }
+held (q ∷ []) = record { first = Some q; second = None }
+held (q ∷ t ∷ qs) = record { first = Some q; second = Some t }
+
+-- and the pairs that an answer holds, in order
+unfoldable pub pair_in : Option Pair → List Pair
+pair_in None = []
+pair_in (Some q) = q ∷ []
+
+unfoldable pub pairs_in : Nexts → List Pair
+pairs_in r = pair_in r.first ++ pair_in r.second

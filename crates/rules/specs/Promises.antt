@@ -2,9 +2,12 @@
 -- functions through their contracts (Outcomes.antt, and those of channel and pusher): of everything that a contract allows.
 use Rattle.std.specs.Prelude.{ℕ, zero, suc, ◌+◌, ◌*◌, ◌/◌, ◌%◌, ◌^◌, ◌≤◌, ◌<◌, ◌≡◌, Bool, true, false, List, [], ◌∷◌, ◌⊎◌, ◌↔◌, length, get_or}
 use Rattle.std.proofs.Math.Option.{none, some}
+use Rattle.std.specs.declared.option.Option.{Option}
+use Rattle.std.specs.declared.result.Result.{Result}
 use Rattle.word.specs.First.{PlainCase, ◌if◌, FirstIs}
 use Rattle.word.specs.Answers.{check_refusal}
 use Rattle.word.specs.declared.setting.Setting.{Setting}
+use Rattle.word.specs.declared.setting.Refusal.{Refusal}
 use Rattle.word.specs.declared.reading.Reading.{Reading}
 use Rattle.event.specs.declared.Method.{Method}
 use Rattle.pusher.specs.Record as pusher_record
@@ -25,16 +28,17 @@ use Rattle.channel.specs.declared.opening.Opened.{Opened}
 use Rattle.channel.specs.declared.putting.Put.{Put}
 use Rattle.channel.specs.declared.stepping.Stepped.{Stepped}
 use Rattle.word.specs.Lent.{Words, words_of}
-use Rattle.rules.specs.Reason.{Submission, submission, size, command_at, flaw_at}
+use Rattle.rules.specs.Reason.{Submission, submission, size, command_at, MapTests, flaw_at}
 use Rattle.rules.specs.Judging.{setting_of}
 use Rattle.rules.specs.Path.{Next, Reached, Bad, Exact}
 use Rattle.rules.specs.Search.{Found, ◌found_from◌, found, exact_map}
-use Rattle.rules.specs.Answers.{number, verdict_refusal, Accepts}
-use Rattle.rules.specs.Outcomes.{FindsOwn, MarkedAmong, Arrives, NextPairs, FirstRefuses, NoSuchLengths, Judges}
+use Rattle.rules.specs.Answers.{submit_refusal, number, verdict_refusal, Accepts}
+use Rattle.rules.specs.Outcomes.{Counts, ReadsAt, FindsOwn, MarkedAmong, Arrives, NextPairs, FindsAt, FirstRefuses, NoSuchLengths, HandsIn, Judges}
 use Rattle.rules.specs.declared.pair.Pair.{Pair}
 use Rattle.rules.specs.declared.pair.Nexts.{Nexts}
-use Rattle.rules.specs.declared.reason.Finding.{Finding}
+use Rattle.rules.specs.declared.reason.Reason.{Reason}
 use Rattle.rules.specs.declared.judging.FirstRefused.{FirstRefused}
+use Rattle.rules.specs.declared.submission.Submission as code_submission
 use Rattle.rules.specs.declared.judging.Judgement.{Judgement}
 
 -- What is lent are bytes.
@@ -81,19 +85,32 @@ pub record Refused : Type 0 where
       → (n : ℕ)
       → verdict_refusal r.verdict ≡ some n
       → (number r.verdict ≡ none) × (r.count ≡ 0)
+  -- what is submitted is refused by the same table, with any number as the most words
+  pub submitting :
+      (most level : ℕ) (sli : Bool) (bytes map list : List ℕ) (r : Result code_submission.Submission Refusal)
+      → HandsIn most level sli bytes map list r
+      → (n : ℕ)
+      → submit_refusal r ≡ some n ↔ FirstIs (judge_plain most level sli bytes map list) n
 
 -- Each contract leaves one outcome.
 pub record One : Type 0 where
+  pub counts : (setting : Setting) (bytes list : List ℕ) (a b : ℕ) → Counts setting bytes list a → Counts setting bytes list b → a ≡ b
+  pub reads_at : (setting : Setting) (bytes list : List ℕ) (p : ℕ) (a b : Reading) → ReadsAt setting bytes list p a → ReadsAt setting bytes list p b → a ≡ b
   pub own_reason :
-      (setting : Setting) (bytes list : List ℕ) (d : Reading) (p : ℕ) (s : Bool) (a b : Finding)
+      (setting : Setting) (bytes list : List ℕ) (d : Reading) (p : ℕ) (s : Bool) (a b : Option Reason)
       → FindsOwn setting bytes list d p s a
       → FindsOwn setting bytes list d p s b
       → a ≡ b
   pub marked_among : (map : List ℕ) (p c : ℕ) (a b : Bool) → MarkedAmong map p c a → MarkedAmong map p c b → a ≡ b
-  pub arrival : (n : ℕ) (q : Pair) (lacks : Bool) (a b : Finding) → Arrives n q lacks a → Arrives n q lacks b → a ≡ b
+  pub arrival : (n : ℕ) (q : Pair) (lacks : Bool) (a b : Option Reason) → Arrives n q lacks a → Arrives n q lacks b → a ≡ b
   pub nexts : (d : Reading) (p : ℕ) (s : Bool) (a b : Nexts) → NextPairs d p s a → NextPairs d p s b → a ≡ b
+  pub command_reason :
+      (setting : Setting) (bytes list : List ℕ) (m : MapTests) (d : Reading) (p : ℕ) (s : Bool) (ns : Nexts) (a b : Option Reason)
+      → FindsAt setting bytes list m d p s ns a
+      → FindsAt setting bytes list m d p s ns b
+      → a ≡ b
   pub first_refused :
-      (setting : Setting) (bytes map list : List ℕ) (a b : FirstRefused)
+      (setting : Setting) (bytes map list : List ℕ) (a b : Option FirstRefused)
       → FirstRefuses setting bytes map list a
       → FirstRefuses setting bytes map list b
       → a ≡ b

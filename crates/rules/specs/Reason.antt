@@ -1,5 +1,7 @@
 -- The reasons of one pair of a place and a state.
 use Rattle.std.specs.Prelude.{ℕ, ◌+◌, Bool, false, not, ◌&&◌, ◌||◌, List, [], ◌∷◌, ◌++◌, eqb, leb, ltb, length, get_or}
+use Rattle.std.specs.declared.option.Option as code
+use Rattle.std.specs.declared.option.Option.TheVariants.{None, Some}
 use Rattle.std.proofs.Math.Option.{Option, none, some}
 use Rattle.word.specs.First.{Case, first, ◌when◌}
 use Rattle.word.specs.Reading.{number, parameter_count, read_of}
@@ -10,8 +12,8 @@ use Rattle.rules.specs.Map.{among, unmarked}
 use Rattle.rules.specs.Parameters.{place_after, wraps, lacking, denied}
 use Rattle.rules.specs.Next.{nexts}
 use Rattle.rules.specs.declared.pair.Pair.{Pair}
-use Rattle.rules.specs.declared.reason.Finding.{Finding}
-use Rattle.rules.specs.declared.reason.Finding.TheVariants.{Nothing, Against}
+use Rattle.rules.specs.declared.reason.Reason.{Reason}
+use Rattle.rules.specs.declared.submission.Submission as code_submission
 
 -- the reasons' numbers (docs/CARD.md, G)
 abbrev pub MAP_BYTE : ℕ
@@ -62,6 +64,10 @@ pub record Submission : Type 0 where
 abbrev pub submission : Setting → List ℕ → List ℕ → Submission
 submission setting bytes list = record { setting = setting; words = words_of bytes; permit = list }
 
+-- and as the code hands it on
+abbrev pub submitted : code_submission.Submission → Submission
+submitted s = submission s.setting s.words.now s.permit.now
+
 -- G21: how many words there are, and what the word at a place reads as, by itself
 abbrev pub size : Submission → ℕ
 size x = length x.words
@@ -110,10 +116,13 @@ pub record MapTests : Type 0 where
   pub lacks : Pair → Bool
 
 -- G26, G9: the order at one pair: its own reasons, a marked parameter, and those of its next pairs.
-abbrev pub command_cases : MapTests → Submission → Reading → ℕ → Bool → List Case
-command_cases m x d p s =
+abbrev pub cases_by : MapTests → Submission → Reading → ℕ → Bool → List Pair → List Case
+cases_by m x d p s qs =
     own_cases x d p s
-    ++ (MARKED_PARAMETER when m.among (p + 1) (parameter_count d) ∷ next_cases m.lacks (size x) (nexts d p s))
+    ++ (MARKED_PARAMETER when m.among (p + 1) (parameter_count d) ∷ next_cases m.lacks (size x) qs)
+
+abbrev pub command_cases : MapTests → Submission → Reading → ℕ → Bool → List Case
+command_cases m x d p s = cases_by m x d p s (nexts d p s)
 
 unfoldable pub first_reason : MapTests → Submission → ℕ → Bool → Option ℕ
 first_reason m x p s = first (command_cases m x (command_at x p) p s)
@@ -133,6 +142,6 @@ abbrev pub flaw_at : Submission → ℕ → Bool → Option ℕ
 flaw_at x p s = first_reason no_map x p s
 
 -- what the gatekeeper finds
-unfoldable pub finding_of : Option ℕ → Finding
-finding_of none = Nothing
-finding_of (some n) = Against (record { number = n })
+unfoldable pub finding_of : Option ℕ → code.Option Reason
+finding_of none = None
+finding_of (some n) = Some (record { number = n })

@@ -1,6 +1,9 @@
 -- Why words are not passed on, in plain terms: which reason is given, and where.
-use Rattle.std.specs.Prelude.{ℕ, ◌+◌, ◌/◌, ◌%◌, ◌≤◌, ◌<◌, ◌≡◌, Bool, true, false, List, [], ◌∷◌, ◌++◌, ◌⊎◌, ◌↔◌, length, get_or}
+use Rattle.std.specs.Prelude.{ℕ, ◌+◌, ◌/◌, ◌%◌, ◌≤◌, ◌<◌, ◌≡◌, Bool, true, false, List, [], ◌∷◌, ◌++◌, ◌⊎◌, ◌↔◌, length, get_or, map}
 use Rattle.std.proofs.Math.Option.{none, some}
+use Rattle.std.specs.declared.option.Option.{Option}
+use Rattle.std.specs.declared.option.Option.TheVariants.{None, Some}
+use Rattle.std.specs.declared.result.Result.TheVariants.{Ok}
 use Rattle.word.specs.First.{PlainCase, ◌if◌, FirstIs}
 use Rattle.word.specs.Reading as reading
 use Rattle.word.specs.Reading.{parameter_count}
@@ -10,16 +13,17 @@ use Rattle.word.specs.declared.setting.Setting.{Setting}
 use Rattle.word.specs.declared.reading.Reading.{Reading}
 use Rattle.rules.specs.Map.{main, inside}
 use Rattle.rules.specs.Next.{◌in_state◌, nexts}
-use Rattle.rules.specs.Reason.{Submission, submission, size, command_at, flaw_at}
+use Rattle.rules.specs.Reason.{Submission, submission, size, command_at, by_map, no_map, flaw_at}
 use Rattle.rules.specs.Judging.{setting_of}
 use Rattle.rules.specs.Path.{Next}
 use Rattle.rules.specs.Answers.{finding_number, refused_number, refused_pair_in, number, verdict_refusal, values, verdict_why, Accepts}
-use Rattle.rules.specs.Outcomes.{FindsOwn, MarkedAmong, Arrives, NextPairs, FirstRefuses, Judges}
+use Rattle.rules.specs.Outcomes.{Counts, ReadsAt, FindsOwn, MarkedAmong, Arrives, NextPairs, FindsAt, FirstRefuses, HandsIn, Judges}
 use Rattle.rules.specs.Promises.{Permitted}
 use Rattle.rules.specs.declared.pair.Pair.{Pair}
 use Rattle.rules.specs.declared.pair.Nexts.{Nexts}
-use Rattle.rules.specs.declared.reason.Finding.{Finding}
+use Rattle.rules.specs.declared.reason.Reason.{Reason}
 use Rattle.rules.specs.declared.judging.FirstRefused.{FirstRefused}
+use Rattle.rules.specs.declared.submission.Submission as code_submission
 use Rattle.rules.specs.declared.judging.Judgement.{Judgement}
 
 -- G21: what is submitted, as these statements and those of Promises.antt name it.
@@ -35,6 +39,19 @@ pub record Submitted : Type 0 where
       → LentAt bytes p w
       → Reads s w 0 r
       → command_at (submission s bytes list) p ≡ r
+  -- `size` and `command_at` answer that
+  pub counts : (s : Setting) (bytes list : List ℕ) (n : ℕ) → Counts s bytes list n → n ≡ length bytes / 4
+  pub reads_at :
+      (s : Setting) (bytes list : List ℕ) (p w : ℕ) (d r : Reading)
+      → LentAt bytes p w
+      → Reads s w 0 r
+      → ReadsAt s bytes list p d
+      → d ≡ r
+  -- and what `submit` hands on is the lent words and list, in NV04-style
+  pub submits :
+      (most level : ℕ) (sli : Bool) (bytes map list : List ℕ) (x : code_submission.Submission)
+      → HandsIn most level sli bytes map list (Ok x)
+      → (x.setting ≡ setting_of level sli) × (x.words.now ≡ bytes) × (x.permit.now ≡ list)
 
 -- G22: a byte's lowest bit is main's mark, the one above it a subroutine's; so too of a byte over 3, by these two bits.
 abbrev pub Marks : List ℕ → ℕ → Bool → Type 0
@@ -171,7 +188,7 @@ NoneWraps =
 -- `first_refused` gives the first marked pair that has a reason, with that reason.
 abbrev pub FirstPairs : Type 0
 FirstPairs =
-    (setting : Setting) (bytes map list : List ℕ) (r : FirstRefused)
+    (setting : Setting) (bytes map list : List ℕ) (r : Option FirstRefused)
     → FirstRefuses setting bytes map list r
     → (n p : ℕ) (s : Bool)
     → ((refused_number r ≡ some n) × (refused_pair_in r ≡ some (p in_state s)))
@@ -189,33 +206,47 @@ pub record NextsPlain (d : Reading) (p : ℕ) (s : Bool) (qs : List Pair) : Type
   -- after a call inside, at its target, and in main, behind it
   pub call : (t : ℕ) → reading.number d ≡ 8 → reading.values d ≡ t ∷ [] → qs ≡ (t / 4) in_state inside ∷ (p + 1) in_state main ∷ []
 
--- An answer gives such pairs: how many they are, and which; one that is not there is place 0 in main.
+-- An answer gives such pairs: they are at most two, and it has the first of them first, and the second second.
 pub record Gives (qs : List Pair) (r : Nexts) : Type 0 where
-  pub count : r.count ≡ length qs
-  pub first : r.first ≡ get_or qs 0 (0 in_state main)
-  pub second : r.second ≡ get_or qs 1 (0 in_state main)
+  pub most : length qs ≤ 2
+  pub first : r.first ≡ get_or (map Some qs) 0 None
+  pub second : r.second ≡ get_or (map Some qs) 1 None
 
 -- G26, G27: what each of the others answers of one pair.
 pub record AtOnePair : Type 0 where
   pub own_reason :
-      (setting : Setting) (bytes list : List ℕ) (d : Reading) (p : ℕ) (s : Bool) (r : Finding)
+      (setting : Setting) (bytes list : List ℕ) (d : Reading) (p : ℕ) (s : Bool) (r : Option Reason)
       → FindsOwn setting bytes list d p s r
       → (n : ℕ)
       → finding_number r ≡ some n ↔ FirstIs (own_plain (submission setting bytes list) d p s) n
   pub marked_among : (map : List ℕ) (p c : ℕ) (r : Bool) → MarkedAmong map p c r → r ≡ true ↔ AmongPlain map p c
   pub arrival :
-      (n : ℕ) (q : Pair) (lacks : Bool) (r : Finding)
+      (n : ℕ) (q : Pair) (lacks : Bool) (r : Option Reason)
       → Arrives n q lacks r
       → (k : ℕ)
       → finding_number r ≡ some k ↔ FirstIs (arrival_plain n q (lacks ≡ true)) k
   -- the list by which the reasons and the path rule go, and the answer that gives it
   pub next_pairs : (d : Reading) (p : ℕ) (s : Bool) → NextsPlain d p s (nexts d p s)
   pub answers_nexts : (d : Reading) (p : ℕ) (s : Bool) (r : Nexts) → NextPairs d p s r → Gives (nexts d p s) r
+  -- the reasons of a command together, by a map
+  pub command_reason :
+      (setting : Setting) (bytes map list : List ℕ) (d : Reading) (p : ℕ) (s : Bool) (ns : Nexts) (r : Option Reason)
+      → NextPairs d p s ns
+      → FindsAt setting bytes list (by_map map) d p s ns r
+      → (n : ℕ)
+      → finding_number r ≡ some n ↔ FirstIs (command_plain (submission setting bytes list) map d p s) n
+  -- H2: and by none, which are the path rule's
+  pub flaw :
+      (setting : Setting) (bytes list : List ℕ) (p : ℕ) (s : Bool) (ns : Nexts) (r : Option Reason)
+      → let x = submission setting bytes list in
+      NextPairs (command_at x p) p s ns
+      → FindsAt setting bytes list no_map (command_at x p) p s ns r
+      → finding_number r ≡ flaw_at x p s
   -- H2: the path rule asks these and no map: none of its reasons is found at a pair exactly if nothing is found of its command's own, nor
   -- at a next pair, none taken to lack its mark.
   pub path_rule :
       (setting : Setting) (bytes list : List ℕ) (p : ℕ) (s : Bool)
       → let x = submission setting bytes list in
       flaw_at x p s ≡ none
-      ↔ (((r : Finding) → FindsOwn setting bytes list (command_at x p) p s r → finding_number r ≡ none)
-      × ((q : ℕ) (t : Bool) → Next (command_at x p) p s q t → (r : Finding) → Arrives (size x) (q in_state t) false r → finding_number r ≡ none))
+      ↔ (((r : Option Reason) → FindsOwn setting bytes list (command_at x p) p s r → finding_number r ≡ none)
+      × ((q : ℕ) (t : Bool) → Next (command_at x p) p s q t → (r : Option Reason) → Arrives (size x) (q in_state t) false r → finding_number r ≡ none))

@@ -3,18 +3,20 @@ use crate::pair::Pair;
 use crate::reason::Reason;
 use word::{Refusal, Why};
 
-// The first pair that is refused, if any is, with its reason.
+// The first pair that is refused, with its reason.
 #[derive(Clone, Copy)]
-pub enum FirstRefused {
-    Nothing,
-    At { reason: Reason, pair: Pair },
+pub struct FirstRefused {
+    pub reason: Reason,
+    pub pair: Pair,
 }
 
-// What is said of a submission: that it is accepted; why it is not, and at which place; or why there is
-// no judgement. Reason 3 has a case of its own, which says why the word there is reserved.
+// What is said of a submission: that it is accepted, or why it is not.
+pub type Verdict = Result<(), Unfit>;
+
+// A reason speaks against the words, at a place; or there is no judgement. Reason 3 has a case of its own,
+// which says why the word there is reserved.
 #[derive(Clone, Copy)]
-pub enum Verdict {
-    Accepted,
+pub enum Unfit {
     Rejected { reason: Reason, place: u32 },
     Refused { refusal: Refusal },
     Reserved { why: Why, place: u32 },

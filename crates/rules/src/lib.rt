@@ -6,8 +6,10 @@ mod judging;
 mod pair;
 mod parameters;
 mod reason;
+mod submission;
 
-pub use judging::{FirstRefused, Judgement, Verdict};
+pub use judging::{FirstRefused, Judgement, Unfit, Verdict};
 pub use pair::{Nexts, Pair};
 pub use parameters::Methods;
-pub use reason::{Finding, Reason};
+pub use reason::Reason;
+pub use submission::Submission;

@@ -7,11 +7,9 @@ pub struct Pair {
     pub inside: bool,
 }
 
-// The pairs at which the words go on after a command: how many there are, at most two, and which. One
-// that is not there has place 0, in main.
+// The pairs at which the words go on after a command: at most two, the first of them first.
 #[derive(Clone, Copy)]
 pub struct Nexts {
-    pub count: u32,
-    pub first: Pair,
-    pub second: Pair,
+    pub first: Option<Pair>,
+    pub second: Option<Pair>,
 }

@@ -1,7 +1,7 @@
 // The reasons that speak against a command.
 
 // A reason, by its number (docs/CARD.md, G).
-#[derive(Clone, Copy)]
+#[derive(Clone, Copy, PartialEq, Eq)]
 pub struct Reason {
     pub number: u8,
 }
@@ -32,11 +32,4 @@ impl Reason {
     pub const END_INSIDE: Reason = Reason { number: 12 };
 
     pub const WRAPS: Reason = Reason { number: 13 };
-}
-
-// What speaks against a command where it stands, if anything does.
-#[derive(Clone, Copy)]
-pub enum Finding {
-    Nothing,
-    Against { reason: Reason },
 }

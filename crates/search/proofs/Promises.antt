@@ -9,6 +9,8 @@ use native.Mathlib.Omega.{arith}
 use lib.ListN.{length, get_or, drop, length-append, length-drop, get_or-append}
 use lib.Seq.{get_or-append-add, get_or-drop}
 use borrow.Author.Tests.{eq-eqb, ne_eqb, ltb-false}
+use Rattle.std.specs.declared.result.Result.{Result}
+use Rattle.std.specs.declared.result.Result.TheVariants.{Ok, Err}
 use Rattle.word.specs.First.{choose, first}
 use Rattle.word.specs.Setting.{refused_or}
 use Rattle.word.specs.declared.setting.Refusal.{Refusal}
@@ -26,42 +28,40 @@ use Rattle.rules.proofs.Finds.{number_plain, finds}
 use Rattle.search.specs.Room.{from_of, pair_of, room_of, search_cases, search_of, room_after}
 use Rattle.search.specs.Answers.{searched_refusal, searched_values}
 use Rattle.search.specs.Promises.{search_plain, Refused, One, Told, Tells}
-use Rattle.search.specs.declared.searching.Searched.{Searched}
-use Rattle.search.specs.declared.searching.Searched.TheVariants as searched
 use Rattle.search.proofs.Rooms.{pair_past}
 use Rattle.search.proofs.Found.{room_length, pair_there, found_held, entry_found, entry_unfound, entry_from, entry_pair}
 
 search_agree : (bytes space : ℕ) → Agree (search_cases bytes space) (search_plain bytes space)
 search_agree bytes space = (refl, less_plain (4 * 1048576) bytes, (refl, less_plain space (2 * (bytes / 4)), tt))
 
-refusal_tells : (n : Refusal) → searched_refusal (searched.Refused n) ≡ some n.number
+refusal_tells : (n : Refusal) → searched_refusal (Err n) ≡ some n.number
 unfolding searched_refusal
 refusal_tells n = refl
 
-pairs_tell : (c : ℕ) → searched_refusal (searched.Pairs c) ≡ none
+pairs_tell : (c : ℕ) → searched_refusal (Ok c) ≡ none
 unfolding searched_refusal
 pairs_tell c = refl
 
-unwritten : (a : Searched) (x : Submission) (room : List ℕ) (n : ℕ) → searched_refusal a ≡ some n → room_after a x room ≡ room
+unwritten : (a : Result ℕ Refusal) (x : Submission) (room : List ℕ) (n : ℕ) → searched_refusal a ≡ some n → room_after a x room ≡ room
 unfolding searched_refusal room_after
-unwritten (searched.Pairs c) x room n e = let z : ◌≡◌ {A = ℕ} 0 1 = cc in absurd (omega arith)
-unwritten (searched.Refused m) x room n e = refl
+unwritten (Ok c) x room n e = let z : ◌≡◌ {A = ℕ} 0 1 = cc in absurd (omega arith)
+unwritten (Err m) x room n e = refl
 
 pub refused : Refused
 unfolding search_of
 refused =
     record {
-      exactly = λ setting bytes list room a exit h. told_plain searched.Refused searched_refusal refusal_tells (search_cases (length bytes) (length room)) (search_plain (length bytes) (length room)) (searched.Pairs (length (found (submission setting bytes list)))) a (search_agree (length bytes) (length room)) (pairs_tell _) h.answer;
+      exactly = λ setting bytes list room a exit h. told_plain Err searched_refusal refusal_tells (search_cases (length bytes) (length room)) (search_plain (length bytes) (length room)) (Ok (length (found (submission setting bytes list)))) a (search_agree (length bytes) (length room)) (pairs_tell _) h.answer;
       unwritten = λ setting bytes list room a exit h n e. h.memory ∙ unwritten a (submission setting bytes list) room n e;
     }
 
 pub one : One
 one setting bytes list room a b x y h k =
     let same = one_outcome h.answer k.answer in
-    (same, h.memory ∙ ap (λ (c : Searched). room_after c (submission setting bytes list) room) same ∙ sym k.memory)
+    (same, h.memory ∙ ap (λ (c : Result ℕ Refusal). room_after c (submission setting bytes list) room) same ∙ sym k.memory)
 
 -- an answer that is no refusal has passed both tests
-answered : (o : Option ℕ) (c count : ℕ) (a : Searched) → a ≡ refused_or searched.Refused o (searched.Pairs c) → searched_values a ≡ count ∷ [] → (o ≡ none) × (count ≡ c) × (a ≡ searched.Pairs c)
+answered : (o : Option ℕ) (c count : ℕ) (a : Result ℕ Refusal) → a ≡ refused_or Err o (Ok c) → searched_values a ≡ count ∷ [] → (o ≡ none) × (count ≡ c) × (a ≡ Ok c)
 unfolding refused_or searched_values
 answered none c count a is e = (refl, (let v = rw is at e in cc), is)
 answered (some n) c count a is e = let v = rw is at e in let z : ◌≡◌ {A = ℕ} 0 1 = cc in absurd (omega arith)

@@ -6,16 +6,15 @@ use mathlib.Core.List.{List, [], ◌∷◌, ◌++◌}
 use mathlib.Core.Logic.{⊎_elim}
 use native.Mathlib.Nat.{eq-or-lt_of_le}
 use native.Mathlib.Omega.{arith}
-use lib.Dec.{eqb, ltb}
-use lib.ListN.{length, get_or, set, length-append, length-set, get_or-append, get_or-eq_default}
+use lib.Dec.{eqb}
+use Rattle.std.proofs.lemmas.List.{get_or-replicate}
+use lib.ListN.{length, get_or, set, replicate, length-replicate, length-append, length-set, get_or-append, get_or-eq_default}
 use lib.Seq.{get_or-append_seam, get_or-set_same, get_or-set_other, set-set, ext_get_or}
-use borrow.Author.Tests.{eqb-true, eqb-false, eq-eqb, ne_eqb, ltb-true, ltb-false}
+use borrow.Author.Tests.{eqb-true, eqb-false, eq-eqb, ne_eqb}
 use Rattle.word.specs.First.{choose}
 use Rattle.word.proofs.First.{by_test, choose_true, choose_false}
 use Rattle.rules.specs.Search.{number_of, Found, ◌found_from◌, is_found, find, find_each, list_of}
-use Rattle.rules.specs.Next.{held}
 use Rattle.rules.specs.declared.pair.Pair.{Pair}
-use Rattle.rules.specs.declared.pair.Nexts.{Nexts}
 use Rattle.rules.proofs.ExactMap.{list_length, list_element, counts_none, counts_more, counts_most}
 use Rattle.search.specs.Room.{from_of, pair_of, entry_of, Holds}
 
@@ -98,14 +97,6 @@ pub pair_past : (fs : List Found) (i : ℕ) → length fs ≤ i → pair_of fs i
 unfolding pair_of
 pair_past fs i l = ap (λ (f : Found). f.pair) (get_or-eq_default fs (0 found_from 0) {n = i} l)
 
-pair_most : (fs : List Found) (m i : ℕ) → ((h : ℕ) → h < length fs → (ith fs h).pair < m) → pair_of fs i ≤ m
-unfolding pair_of
-pair_most fs m i l = go (ltb i (length fs)) refl
-  where
-    go : (b : Bool) → ltb i (length fs) ≡ b → (ith fs i).pair ≤ m
-    go true e = let h = l i (ltb-true i (length fs) e) in omega arith
-    go false e = rw (get_or-eq_default fs (0 found_from 0) {n = i} (ltb-false i (length fs) e)) (omega arith)
-
 -- a number added to one element of a list
 element_more : (l : List ℕ) (k a i : ℕ) → k < length l → get_or (set l k (get_or l k 0 + a)) i 0 ≡ get_or l i 0 + choose (eqb i k) a 0
 unfolding choose
@@ -172,14 +163,6 @@ module _ (fs : List Found) (room : List ℕ) (count : ℕ) (h : Holds fs room co
           let is = h.counted in
           omega arith
 
-      pub room_left : get_or room k 0 < 2 ^ 63
-      unfolding entry_of
-      room_left =
-          let e = entry k l in
-          let none = from_none fs k unfound in
-          let most = pair_most fs (length room) k h.pair_within in
-          omega arith
-
       pub room_left_next : get_or (set room k (get_or room k 0 + (j + 1))) count 0 < 2 ^ 32
       unfolding entry_of
       room_left_next =
@@ -234,18 +217,12 @@ module _ (fs : List Found) (room : List ℕ) (count : ℕ) (h : Holds fs room co
             each_once = rw same_length (counts_more (length room) fs k j l unfound h.each_once);
           }
 
--- a room whose entries are 0 holds nothing; one more is cleared
-pub cleared : (room : List ℕ) (m : ℕ) → length room ≡ m → ((i : ℕ) → i < m → get_or room i 0 ≡ 0) → room ≡ list_of (entry_of []) m
+-- a room whose entries are 0 holds nothing
+pub cleared : (n : ℕ) → replicate n 0 ≡ list_of (entry_of []) n
 unfolding entry_of pair_of from_of
-cleared room m long bare =
-    ext_get_or 0 room (list_of (entry_of []) m) (long ∙ sym (list_length (entry_of []) m))
-    (λ i l. let here : i < m = omega arith in bare i here ∙ sym (list_element (entry_of []) m i here))
-
-pub clear_more : (room : List ℕ) (k : ℕ) → k < length room → ((i : ℕ) → i < k → get_or room i 0 ≡ 0) → (i : ℕ) → i < k + 1 → get_or (set room k 0) i 0 ≡ 0
-clear_more room k there bare i l =
-    ⊎_elim (λ (e : i ≡ k). rw e (get_or-set_same room k 0 0 there))
-    (λ less. get_or-set_other room k i 0 0 (λ (e : i ≡ k). omega arith) ∙ bare i less)
-    (eq-or-lt_of_le {n = i} {m = k} (omega arith))
+cleared n =
+    ext_get_or 0 (replicate n 0) (list_of (entry_of []) n) (length-replicate {A = ℕ} n 0 ∙ sym (list_length (entry_of []) n))
+    (λ i l. let here : i < n = rw (length-replicate {A = ℕ} n 0) at l in get_or-replicate n i 0 0 here ∙ sym (list_element (entry_of []) n i here))
 
 -- it holds no pair, and with place 0 in main, from itself, it holds that
 pub holds_none : (room : List ℕ) → room ≡ list_of (entry_of []) (length room) → Holds [] room 0
@@ -285,28 +262,8 @@ module _ (n j : ℕ) (fs : List Found) (q : Pair) where
   unfolding find
   find_new ne e = choose_false (rw (ne_eqb q.place n ne) e) fs (fs ++ (number_of q found_from j ∷ []))
 
--- next pairs, as they are handed over, are found one after another: none, one, or two
-module _ (n j : ℕ) (fs : List Found) where
-  pub each_none : (qs : List Pair) {ns : Nexts} → ns ≡ held qs → ns.count ≡ 0 → find_each n j fs qs ≡ fs
-  unfolding held find_each
-  each_none [] is e = refl
-  each_none (q ∷ qs) is e = absurd (let z = rw is at e in omega arith)
-
-  pub each_one : (qs : List Pair) {ns : Nexts} → ns ≡ held qs → ns.count ≡ 1 → find_each n j fs qs ≡ find n j fs ns.first
-  unfolding held find_each
-  each_one [] is e = absurd (let z = rw is at e in omega arith)
-  each_one (q ∷ []) is e = rw is
-  each_one (q ∷ r ∷ qs) is e = absurd (let z = rw is at e in omega arith)
-
-  pub each_two :
-      (qs : List Pair) {ns : Nexts}
-      → ns ≡ held qs
-      → ns.count ≤ 2
-      → (ns.count ≡ 0 → ⊥)
-      → (ns.count ≡ 1 → ⊥)
-      → find_each n j fs qs ≡ find n j (find n j fs ns.first) ns.second
-  unfolding held find_each
-  each_two [] is l a b = absurd (a (rw is))
-  each_two (q ∷ []) is l a b = absurd (b (rw is))
-  each_two (q ∷ r ∷ []) is l a b = rw is
-  each_two (q ∷ r ∷ s ∷ qs) is l a b = absurd (let z = rw is at l in omega arith)
+-- next pairs, as they are handed over, are found one after another
+pub each_append : (n j : ℕ) (fs : List Found) (qs rs : List Pair) → find_each n j fs (qs ++ rs) ≡ find_each n j (find_each n j fs qs) rs
+unfolding find_each
+each_append n j fs [] rs = refl
+each_append n j fs (q ∷ qs) rs = each_append n j (find n j fs q) qs rs

@@ -1,73 +1,82 @@
 -- How a pair is taken: what is found of it, and from it. Assumes nothing.
 use Prim.Native.Nat.{ℕ, ◌+◌, ◌*◌, ◌≤◌, ◌<◌}
 use mathlib.Core.Path.{◌≡◌, refl, sym, ap, ◌∙◌}
-use mathlib.Core.Bool.{Bool, true}
+use mathlib.Core.Bool.{Bool, true, false, false≢true}
 use mathlib.Core.List.{List, [], ◌∷◌}
 use mathlib.Core.Logic.{inl, inr}
 use mathlib.Core.Option.{Option, none, some}
 use native.Mathlib.Numerals.{add-one}
-use native.Mathlib.Omega.{arith}
 use lib.Dec.{eqb}
 use lib.ListN.{length, get_or}
 use borrow.Author.Tests.{lt-ltb, le-ltb}
+use Rattle.std.specs.declared.option.Option as code
+use Rattle.std.specs.Option.{IfSome, is_some}
 use Rattle.word.specs.First.{choose, first}
 use Rattle.word.specs.Lowest.{found?}
 use Rattle.word.proofs.First.{choose_true, choose_false}
 use Rattle.word.specs.declared.reading.Reading.{Reading}
 use Rattle.rules.specs.Next.{nexts, held}
-use Rattle.rules.specs.Reason.{Submission, size, command_at, no_map, command_cases, first_reason, flaw_at, finding_of}
+use Rattle.rules.specs.Reason.{Submission, size, command_at, no_map, cases_by, first_reason, flaw_at, finding_of}
 use Rattle.rules.specs.Judging.{place_of, state_of}
 use Rattle.rules.specs.Path.{OneOf}
 use Rattle.rules.specs.Search.{Found, ◌found_from◌, find_each, taking, take_nth, found_after, found}
 use Rattle.rules.specs.declared.pair.Pair.{Pair}
 use Rattle.rules.specs.declared.pair.Nexts.{Nexts}
 use Rattle.rules.specs.declared.reason.Reason.{Reason}
-use Rattle.rules.specs.declared.reason.Finding.{Finding}
-use Rattle.rules.specs.declared.reason.Finding.TheVariants.{Nothing, Against}
+use Rattle.rules.specs.Next.{pairs_in}
+use Rattle.rules.proofs.NextLaws.{held_pairs}
 use Rattle.rules.proofs.Complete.{next_within}
 
 -- something is found exactly where there is a reason
-against_some : (o : Option ℕ) {r : Reason} → Against r ≡ finding_of o → found? o ≡ true
+some_found : (o : Option ℕ) → is_some (finding_of o) ≡ found? o
 unfolding finding_of found?
-against_some none e = let z : ◌≡◌ {A = ℕ} 0 1 = cc in absurd (omega arith)
-against_some (some n) e = refl
+some_found none = refl
+some_found (some n) = refl
 
-nothing_none : (o : Option ℕ) → Nothing ≡ finding_of o → o ≡ none
-unfolding finding_of
-nothing_none none e = refl
-nothing_none (some n) e = let z : ◌≡◌ {A = ℕ} 0 1 = cc in absurd (omega arith)
+none_found : (o : Option ℕ) → found? o ≡ false → o ≡ none
+unfolding found?
+none_found none e = refl
+none_found (some n) e = absurd (false≢true (sym e))
 
--- of next pairs that lie within so many words, both that are handed over do
-first_within : (qs : List Pair) (n : ℕ) → ((q : ℕ) (t : Bool) → OneOf qs q t → q ≤ n) → (held qs).first.place ≤ n
+-- of next pairs that lie within so many words, those that are handed over do
+first_within : (qs : List Pair) (n : ℕ) → ((q : ℕ) (t : Bool) → OneOf qs q t → q ≤ n) → IfSome (held qs).first (λ q. q.place ≤ n)
 unfolding held
-first_within [] n h = omega arith
-first_within (q ∷ qs) n h = h q.place q.inside (inl (refl, refl))
+first_within [] n h = tt
+first_within (q ∷ []) n h = h q.place q.inside (inl (refl, refl))
+first_within (q ∷ r ∷ qs) n h = h q.place q.inside (inl (refl, refl))
 
-second_within : (qs : List Pair) (n : ℕ) → ((q : ℕ) (t : Bool) → OneOf qs q t → q ≤ n) → (held qs).second.place ≤ n
+second_within : (qs : List Pair) (n : ℕ) → ((q : ℕ) (t : Bool) → OneOf qs q t → q ≤ n) → IfSome (held qs).second (λ q. q.place ≤ n)
 unfolding held
-second_within [] n h = omega arith
-second_within (q ∷ []) n h = omega arith
+second_within [] n h = tt
+second_within (q ∷ []) n h = tt
 second_within (q ∷ r ∷ qs) n h = h r.place r.inside (inr (inl (refl, refl)))
 
-module _ (x : Submission) (p : ℕ) (s : Bool) {d : Reading} (read : d ≡ command_at x p) {f : Finding} (found : f ≡ finding_of (first (command_cases no_map x d p s))) where
+-- A pair, the command there, and where the words go on: what is found of it by no map is what the path rule says;
+module _
+    (x : Submission) (p : ℕ) (s : Bool) {d : Reading} (read : d ≡ command_at x p) {ns : Nexts} (is : ns ≡ held (nexts d p s))
+    {f : code.Option Reason} (found : f ≡ finding_of (first (cases_by no_map x d p s (pairs_in ns)))) where
+  pub handed : pairs_in ns ≡ nexts d p s
+  handed = ap pairs_in is ∙ held_pairs d p s
+
   by_path_rule : f ≡ finding_of (flaw_at x p s)
   unfolding first_reason
-  by_path_rule = rw (← read) found
+  by_path_rule = rw (← read) (rw handed at found)
 
-  pub flawed : {r : Reason} → f ≡ Against r → found? (flaw_at x p s) ≡ true
-  flawed e = against_some (flaw_at x p s) (sym e ∙ by_path_rule)
+  pub flawed : is_some f ≡ true → found? (flaw_at x p s) ≡ true
+  flawed e = sym (some_found (flaw_at x p s)) ∙ rw by_path_rule at e
 
-  pub flawless : f ≡ Nothing → flaw_at x p s ≡ none
-  flawless e = nothing_none (flaw_at x p s) (sym e ∙ by_path_rule)
+  pub flawless : is_some f ≡ false → flaw_at x p s ≡ none
+  flawless e = none_found (flaw_at x p s) (sym (some_found (flaw_at x p s)) ∙ rw by_path_rule at e)
 
-  module _ (e : f ≡ Nothing) {ns : Nexts} (is : ns ≡ held (nexts d p s)) where
+  -- and where that says nothing, the words go on within them
+  module _ (e : is_some f ≡ false) where
     within : (q : ℕ) (t : Bool) → OneOf (nexts d p s) q t → q ≤ size x
     within q t o = next_within x p s q t (flawless e) (rw read at o)
 
-    pub first_there : ns.first.place ≤ size x
+    pub first_there : IfSome ns.first (λ q. q.place ≤ size x)
     first_there = rw is (first_within (nexts d p s) (size x) within)
 
-    pub second_there : ns.second.place ≤ size x
+    pub second_there : IfSome ns.second (λ q. q.place ≤ size x)
     second_there = rw is (second_within (nexts d p s) (size x) within)
 
 -- the i-th is taken, if so many were found

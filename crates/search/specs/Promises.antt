@@ -4,14 +4,15 @@
 use Rattle.std.specs.Prelude.{ℕ, ◌+◌, ◌*◌, ◌/◌, ◌%◌, ◌^◌, ◌≤◌, ◌<◌, ◌≡◌, Bool, List, [], ◌∷◌, ◌↔◌, length, get_or}
 use Rattle.std.proofs.Math.Option.{some}
 use Rattle.word.specs.First.{PlainCase, ◌if◌, FirstIs}
+use Rattle.std.specs.declared.result.Result.{Result}
 use Rattle.word.specs.declared.setting.Setting.{Setting}
+use Rattle.word.specs.declared.setting.Refusal.{Refusal}
 use Rattle.rules.specs.Reason.{Submission, submission, size}
 use Rattle.rules.specs.Path.{Reached}
 use Rattle.rules.specs.Search.{found}
 use Rattle.rules.specs.Promises.{Numbers, nth}
 use Rattle.search.specs.Answers.{searched_refusal, searched_values}
 use Rattle.search.specs.Outcomes.{Searches}
-use Rattle.search.specs.declared.searching.Searched.{Searched}
 
 -- Promise 1. R36: the order, in plain terms, of words of so many bytes and a room of so many entries. R8, R11
 abbrev pub search_plain : ℕ → ℕ → List PlainCase
@@ -24,12 +25,12 @@ search_plain bytes space =
 -- it was.
 pub record Refused : Type 0 where
   pub exactly :
-      (setting : Setting) (bytes list room : List ℕ) (a : Searched) (exit : List ℕ)
+      (setting : Setting) (bytes list room : List ℕ) (a : Result ℕ Refusal) (exit : List ℕ)
       → Searches setting bytes list room a exit
       → (n : ℕ)
       → searched_refusal a ≡ some n ↔ FirstIs (search_plain (length bytes) (length room)) n
   pub unwritten :
-      (setting : Setting) (bytes list room : List ℕ) (a : Searched) (exit : List ℕ)
+      (setting : Setting) (bytes list room : List ℕ) (a : Result ℕ Refusal) (exit : List ℕ)
       → Searches setting bytes list room a exit
       → (n : ℕ)
       → searched_refusal a ≡ some n
@@ -38,7 +39,7 @@ pub record Refused : Type 0 where
 -- The contract leaves one outcome.
 abbrev pub One : Type 0
 One =
-    (setting : Setting) (bytes list room : List ℕ) (a b : Searched) (x y : List ℕ)
+    (setting : Setting) (bytes list room : List ℕ) (a b : Result ℕ Refusal) (x y : List ℕ)
     → Searches setting bytes list room a x
     → Searches setting bytes list room b y
     → (a ≡ b) × (x ≡ y)
@@ -58,7 +59,7 @@ pub record Told (x : Submission) (room exit : List ℕ) (count : ℕ) : Type 0 w
 -- H11: so it does, where nothing is refused
 abbrev pub Tells : Type 0
 Tells =
-    (setting : Setting) (bytes list room : List ℕ) (a : Searched) (exit : List ℕ) (count : ℕ)
+    (setting : Setting) (bytes list room : List ℕ) (a : Result ℕ Refusal) (exit : List ℕ) (count : ℕ)
     → Searches setting bytes list room a exit
     → searched_values a ≡ count ∷ []
     → Told (submission setting bytes list) room exit count

@@ -1,11 +1,12 @@
 -- What the search leaves in its room.
 use Rattle.std.specs.Prelude.{ℕ, ◌+◌, ◌*◌, ◌/◌, ◌^◌, ◌<◌, ◌≡◌, List, [], ◌∷◌, ◌++◌, eqb, ltb, length, get_or, drop}
+use Rattle.std.specs.declared.result.Result.{Result}
+use Rattle.std.specs.declared.result.Result.TheVariants.{Ok, Err}
 use Rattle.word.specs.First.{choose, Case, first, ◌when◌}
 use Rattle.word.specs.Setting.{SIZE, ROOM, refused_or}
+use Rattle.word.specs.declared.setting.Refusal.{Refusal}
 use Rattle.rules.specs.Reason.{Submission, size}
 use Rattle.rules.specs.Search.{Found, ◌found_from◌, found_below, found, list_of}
-use Rattle.search.specs.declared.searching.Searched.{Searched}
-use Rattle.search.specs.declared.searching.Searched.TheVariants.{Pairs, Refused}
 
 -- H11: in the lower half of entry k, from where the pair k was found: one more than that pair's number, or 0 where k was not found
 unfoldable pub from_of : List Found → ℕ → ℕ
@@ -32,13 +33,13 @@ search_cases bytes space =
     ∷ []
 
 -- H11: what the search answers: a refusal, or how many pairs were found
-unfoldable pub search_of : Submission → ℕ → ℕ → Searched
-search_of x bytes space = refused_or Refused (first (search_cases bytes space)) (Pairs (length (found x)))
+unfoldable pub search_of : Submission → ℕ → ℕ → Result ℕ Refusal
+search_of x bytes space = refused_or Err (first (search_cases bytes space)) (Ok (length (found x)))
 
 -- H11, R31: the room after it: what was found at its front and the rest as it was, or all of it as it was
-unfoldable pub room_after : Searched → Submission → List ℕ → List ℕ
-room_after (Refused n) x room = room
-room_after (Pairs c) x room = room_of x ++ drop (2 * size x) room
+unfoldable pub room_after : Result ℕ Refusal → Submission → List ℕ → List ℕ
+room_after (Err n) x room = room
+room_after (Ok c) x room = room_of x ++ drop (2 * size x) room
 
 -- While it searches: the room holds a list of pairs, of which there are `count`; each has its entry, as has the one that it was found
 -- from, and there are as many as entries are found.
@@ -48,3 +49,7 @@ pub record Holds (fs : List Found) (room : List ℕ) (count : ℕ) : Type 0 wher
   pub pair_within : (i : ℕ) → i < length fs → (get_or fs i (0 found_from 0)).pair < length room
   pub from_within : (i : ℕ) → i < length fs → (get_or fs i (0 found_from 0)).from < length room
   pub each_once : length fs ≡ found_below fs (length room)
+
+-- It holds such a list.
+abbrev pub Filled : List ℕ → ℕ → Type 0
+Filled room count = ∥ ((fs : List Found) × Holds fs room count) ∥₁

@@ -1,72 +1,87 @@
 // The room: of each pair the one that it was found from, in the lower half of the pair's entry; and the
 // pairs in the order in which they were found, in the upper halves.
-ghost use Rattle.std.specs.Prelude.{◌≡◌, List, [], ◌∷◌, ◌*◌, ◌^◌, ◌≤◌, ◌<◌, eqb, length};
+ghost use Rattle.std.specs.Prelude.{◌≡◌, List, [], ◌∷◌, ◌*◌, ◌^◌, ◌≤◌, ◌<◌, IfSome, eqb, length};
 ghost use Rattle.word.specs.First.{choose};
-ghost use Rattle.rules.specs.Next.{held};
 ghost use Rattle.rules.specs.Search.{number_of, Found, ◌found_from◌, find, find_each, list_of};
-ghost use Rattle.rules.specs.declared.pair.Pair.{Pair};
-ghost use Rattle.search.specs.Room.{entry_of, Holds};
+ghost use Rattle.rules.specs.Next.{pair_in, pairs_in};
+ghost use Rattle.search.specs.Room.{entry_of, Holds, Filled};
 
 use rules::{Nexts, Pair};
 
-// A room in which no pair is found.
-pub(crate) fn clear(room: &mut [u64])
-    ensures { room.new ≡ list_of (entry_of []) (length room.old) }
-{
-    for k in 0..room.len() {
-        room[k] = 0;
-    }
+// The entries, two a word, how many words there are, and how many pairs were found.
+#[derive(Drop)]
+pub(crate) struct Room<'a> {
+    pub(crate) entries: &'a mut [u64],
+    pub(crate) end: usize,
+    pub(crate) count: usize,
+    ghost sized: { (end ≤ 2 ^ 20) × (length entries.now ≡ 2 * end) },
+    ghost filled: { Filled entries.now count },
 }
 
-// Place 0 in main, where there are words, is found from itself. Answers how many were found.
-pub(crate) fn begin(room: &mut [u64], end: usize) -> usize
-    requires { (end < 2 ^ 30) × (length room.old ≡ 2 * end) × (room.old ≡ list_of (entry_of []) (length room.old)) }
-    ensures { Holds (choose (eqb end 0) [] (0 found_from 0 ∷ [])) room.new result }
-{
-    if end == 0 {
-        return 0;
-    }
-    room[0] = 1;
-    1
-}
+impl<'a> Room<'a> {
+    ghost use Rattle.search.specs.Finding.{Becomes};
 
-// The next pairs of a pair, of which each is found that is not the end and was not found before. Answers
-// how many were found by then.
-pub(crate) fn find_each(
-    room: &mut [u64],
-    end: usize,
-    from: usize,
-    next: Nexts,
-    count: usize,
-) -> usize
-    requires { (end < 2 ^ 30) × (from < 2 * end) × (length room.old ≡ 2 * end) × (next.first.place ≤ end) × (next.second.place ≤ end) × ((fs : List Found) × Holds fs room.old count) }
-    ensures { (fs : List Found) (qs : List Pair) → next ≡ held qs → next.count ≤ 2 → Holds fs room.old count → Holds (find_each end from fs qs) room.new result }
-{
-    if next.count == 0 {
-        return count;
+    // Place 0 in main, where there are words, is found from itself.
+    pub(crate) fn begin(entries: &'a mut [u64], end: usize) -> Room<'a>
+        requires { (end ≤ 2 ^ 20) × (length entries.old ≡ 2 * end) × (entries.old ≡ list_of (entry_of []) (length entries.old)) }
+        ensures same_reference { result.entries.ghost_name ≡ entries.entry.ghost_name }
+        ensures sized { result.end ≡ end }
+        ensures held { Holds (choose (eqb end 0) [] (0 found_from 0 ∷ [])) result.entries.now result.count }
+    {
+        if end == 0 {
+            return Room {
+                entries,
+                end,
+                count: 0,
+            };
+        }
+        entries[0] = 1;
+        Room {
+            entries,
+            end,
+            count: 1,
+        }
     }
-    let one = find(room, end, from, next.first, count);
-    if next.count == 1 {
-        return one;
-    }
-    find(room, end, from, next.second, one)
-}
 
-// One of them.
-fn find(room: &mut [u64], end: usize, from: usize, pair: Pair, count: usize) -> usize
-    requires { (end < 2 ^ 30) × (from < 2 * end) × (length room.old ≡ 2 * end) × (pair.place ≤ end) × ((fs : List Found) × Holds fs room.old count) }
-    ensures { (fs : List Found) → Holds fs room.old count → Holds (find end from fs pair) room.new result }
-{
-    if pair.place == end {
-        return count;
+    // The next pairs of a pair, of which each is found that is not the end and was not found before.
+    #[tactic(auto, using(crate::proofs::Rooms::each_append), unfolding(rules::specs::Next::pairs_in))]
+    pub(crate) fn find_each(&mut self, from: usize, next: Nexts)
+        requires { (from < 2 * self.old.end) × IfSome next.first (λ q. q.place ≤ self.old.end) × IfSome next.second (λ q. q.place ≤ self.old.end) }
+        ensures { Becomes (λ fs. find_each self.old.end from fs (pairs_in next)) self.old self.new }
+    {
+        self.find_next(from, next.first);
+        self.find_next(from, next.second);
     }
-    let number = number_of(pair);
-    if room[number] % 0x1_0000_0000 != 0 {
-        return count;
+
+    // One of them, if there is one.
+    #[tactic(auto, unfolding(rules::specs::Next::pair_in, rules::specs::Search::find_each))]
+    fn find_next(&mut self, from: usize, next: Option<Pair>)
+        requires { (from < 2 * self.old.end) × IfSome next (λ q. q.place ≤ self.old.end) }
+        ensures { Becomes (λ fs. find_each self.old.end from fs (pair_in next)) self.old self.new }
+    {
+        if let Some(pair) = next {
+            self.find(from, pair);
+        }
     }
-    room[number] = room[number] + (from as u64 + 1);
-    room[count] = room[count] + number as u64 * 0x1_0000_0000;
-    count + 1
+
+    // That one.
+    fn find(&mut self, from: usize, pair: Pair)
+        requires { (from < 2 * self.old.end) × (pair.place ≤ self.old.end) }
+        ensures { Becomes (λ fs. find self.old.end from fs pair) self.old self.new }
+    {
+        if pair.place == self.end {
+            return;
+        }
+        let number = number_of(pair);
+        if self.entries[number] % 0x1_0000_0000 != 0 {
+            return;
+        }
+        // Between these writes the room holds no list, so that it isn't used as a whole before the last.
+        let entries = &mut *self.entries;
+        entries[number] += from as u64 + 1;
+        entries[self.count] += number as u64 * 0x1_0000_0000;
+        self.count += 1;
+    }
 }
 
 // A pair's number: its entry.

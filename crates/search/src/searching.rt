@@ -1,81 +1,69 @@
 // The search.
-ghost use Rattle.std.specs.Prelude.{◌≡◌, List, ◌*◌, ◌/◌, ◌^◌, ◌≤◌, ◌<◌, length};
-ghost use Rattle.rules.specs.Reason.{submission};
+ghost use Rattle.std.specs.Prelude.{◌≡◌, List, ◌*◌, ◌^◌, ◌≤◌, length};
+ghost use Rattle.rules.specs.Reason.{submitted, size};
 ghost use Rattle.rules.specs.Search.{Found, take_nth, found};
 ghost use Rattle.search.specs.Room.{Holds};
+ghost use Rattle.search.specs.Finding.{Becomes};
 ghost use Rattle.search.specs.Outcomes.{Searches};
 
-use crate::flaw::flaw;
-use crate::room::{begin, clear, find_each};
-use rules::Finding;
-use word::{MOST_WORDS, Refusal, Setting};
+use crate::room::Room;
+use gate::{NoMap, command_reason, nexts};
+use rules::{Pair, Submission};
+use word::{MOST_WORDS, Refusal};
 
-// What the search answers: how many pairs it found, or why it did not search.
-#[derive(Clone, Copy)]
-pub enum Searched {
-    Pairs { count: usize },
-    Refused { refusal: Refusal },
-}
-
-// Finds what the words, lent as little-endian bytes, come to without any map, and from where: the front
-// of the room, two entries a word, then holds it. No pair is taken twice, so that the time grows linearly
-// with the words and the counts of the commands that are reached.
-pub fn search(setting: Setting, words: &[u8], permit: &[u8], room: &mut [u64]) -> Searched
-    ensures { Searches setting words.now permit.now room.old result room.new }
+// Finds what the words come to without any map, and from where: the front of the room, two entries a
+// word, then holds it. Answers how many pairs it found. No pair is taken twice, so that the time grows
+// linearly with the words and the counts of the commands that are reached.
+pub fn search(submission: &Submission, room: &mut [u64]) -> Result<usize, Refusal>
+    ensures { Searches submission.now.setting submission.now.words.now submission.now.permit.now room.old result room.new }
 {
-    if 4 * MOST_WORDS < words.len() {
-        return Searched::Refused {
-            refusal: Refusal::SIZE,
-        };
+    if 4 * MOST_WORDS < submission.words.len() {
+        return Err(Refusal::SIZE);
     }
-    let pairs = 2 * (words.len() / 4);
+    let pairs = 2 * submission.size();
     if room.len() < pairs {
-        return Searched::Refused {
-            refusal: Refusal::ROOM,
-        };
+        return Err(Refusal::ROOM);
     }
-    let count = search_in(setting, words, permit, &mut room[..pairs]);
-    Searched::Pairs { count }
+    Ok(search_in(submission, &mut room[..pairs]))
 }
 
 // The same in a room of two entries a word. Each turn takes one pair, in the order in which they were
 // found; there are no more pairs than turns.
-fn search_in(setting: Setting, words: &[u8], permit: &[u8], room: &mut [u64]) -> usize
-    requires { (length room.old ≡ 2 * (length words.now / 4)) × (length words.now ≤ 2 ^ 22) }
-    ensures { Holds (found (submission setting words.now permit.now)) room.new result }
+#[tactic(auto, using(crate::proofs::Taking::after_all, crate::proofs::Taking::after_none, crate::proofs::Taking::after_one, crate::proofs::Rooms::cleared))]
+fn search_in(submission: &Submission, entries: &mut [u64]) -> usize
+    requires { (length entries.old ≡ 2 * size (submitted submission.now)) × (size (submitted submission.now) ≤ 2 ^ 20) }
+    ensures { Holds (found (submitted submission.now)) entries.new result }
 {
-    clear(room);
-    let mut count = begin(room, words.len() / 4);
-    for turn in 0..room.len() {
-        count = take_nth(setting, words, permit, room, turn, count);
+    entries.fill(0);
+    let turns = entries.len();
+    let mut room = Room::begin(entries, submission.size());
+    for turn in 0..turns {
+        room.take_nth(submission, turn);
     }
-    count
+    room.count
 }
 
-// Takes the pair that was found as the n-th, if so many were: unless something speaks against it, its
-// next pairs are found.
-fn take_nth(
-    setting: Setting,
-    words: &[u8],
-    permit: &[u8],
-    room: &mut [u64],
-    turn: usize,
-    count: usize,
-) -> usize
-    requires { (length room.old ≡ 2 * (length words.now / 4)) × (length words.now ≤ 2 ^ 22) × ((fs : List Found) × Holds fs room.old count) }
-    ensures { (fs : List Found) → Holds fs room.old count → Holds (take_nth (submission setting words.now permit.now) turn fs) room.new result }
-{
-    if count <= turn {
-        return count;
+impl Room<'_> {
+    // Takes the pair that was found as the n-th, if so many were: unless something speaks against it, its
+    // next pairs are found. Inlined, since a call at each turn slows a search that finds little by a quarter.
+    #[inline(always)]
+    pub(crate) fn take_nth(&mut self, submission: &Submission, turn: usize)
+        requires { self.old.end ≡ size (submitted submission.now) }
+        ensures { Becomes (λ fs. take_nth (submitted submission.now) turn fs) self.old self.new }
+    {
+        if self.count <= turn {
+            return;
+        }
+        let number = (self.entries[turn] / 0x1_0000_0000) as usize;
+        let pair = Pair {
+            place: number / 2,
+            inside: number % 2 == 1,
+        };
+        let command = submission.command_at(pair.place);
+        let next = nexts(command, pair.place as u32, pair.inside);
+        if command_reason(submission, &NoMap, command, pair, next).is_some() {
+            return;
+        }
+        self.find_each(number, next);
     }
-    let pair = (room[turn] / 0x1_0000_0000) as usize;
-    let place = pair / 2;
-    let inside = pair % 2 == 1;
-    let command = word::read(setting, word::word_at(words, place), 0);
-    let next = gate::nexts(command, place as u32, inside);
-    let found = flaw(setting, words, permit, command, place, inside, next);
-    if let Finding::Against { reason: _ } = found {
-        return count;
-    }
-    find_each(room, words.len() / 4, pair, next, count)
 }

@@ -27,25 +27,25 @@ use Rattle.trace.specs.End.{cause_of, ending_of}
 use Rattle.trace.specs.Answers.{end_number, ending_number}
 use Rattle.trace.specs.declared.end.Cause.TheVariants as cause
 use Rattle.trace.specs.declared.end.End.TheVariants.{Error, Idle, Budget}
-use Rattle.trace.specs.declared.end.Ending.TheVariants.{GoesOn, Over}
+use Rattle.std.specs.declared.option.Option.TheVariants.{None, Some}
 
 -- which end it is, by the tests in turn
 module _ (c : Channel) (n : ℕ) where
-  pub if_stopped : is_stopped c.pusher c.puller ≡ true → ending_of c n ≡ Over (Error (cause_of c))
+  pub if_stopped : is_stopped c.pusher c.puller ≡ true → ending_of c n ≡ Some (Error (cause_of c))
   unfolding ending_of
   if_stopped s = choose_true s _ _
 
   module _ (runs : is_stopped c.pusher c.puller ≡ false) where
-    if_idle : idles c ≡ true → ending_of c n ≡ Over Idle
+    if_idle : idles c ≡ true → ending_of c n ≡ Some Idle
     unfolding ending_of
     if_idle i = choose_false runs _ _ ∙ choose_true i _ _
 
     module _ (busy : idles c ≡ false) where
-      if_late : leb 65536 n ≡ true → ending_of c n ≡ Over Budget
+      if_late : leb 65536 n ≡ true → ending_of c n ≡ Some Budget
       unfolding ending_of
       if_late h = choose_false runs _ _ ∙ choose_false busy _ _ ∙ choose_true h _ _
 
-      if_early : leb 65536 n ≡ false → ending_of c n ≡ GoesOn
+      if_early : leb 65536 n ≡ false → ending_of c n ≡ None
       unfolding ending_of
       if_early h = choose_false runs _ _ ∙ choose_false busy _ _ ∙ choose_false h _ _
 

@@ -7,15 +7,16 @@ use lib.ListN.{length}
 use Rattle.word.proofs.First.{one_outcome}
 use Rattle.channel.specs.Answers.{step_refusal}
 use Rattle.channel.specs.Stepping.{Outcome, step_of}
-use Rattle.channel.specs.declared.stepping.Answer.{Answer}
-use Rattle.channel.specs.declared.stepping.Answer.TheVariants as answer
+use Rattle.word.specs.declared.setting.Refusal.{Refusal}
+use Rattle.event.specs.declared.Event.{Event}
+use Rattle.std.specs.declared.result.Result.{Result}
+use Rattle.std.specs.declared.result.Result.TheVariants.{Ok, Err}
 use Rattle.channel.proofs.Promises as channel
-use Rattle.trace.specs.End.{ending_of}
+use Rattle.trace.specs.End.{Ending, ending_of}
 use Rattle.trace.specs.LineByLine.{lending, Leaving, answered, or_end, by_stage}
 use Rattle.trace.specs.Answers.{stage_number, cause_number, cause_values, cause_why, end_number, end_values, end_why, ending_number, ending_values, ending_why}
 use Rattle.trace.specs.Promises.{Refused, One, Begun, Ended, Endings, Whole, Texts, Names, NextLine, Loaded, Printed, Cases}
-use Rattle.trace.specs.declared.end.Ending.{Ending}
-use Rattle.trace.specs.declared.end.Ending.TheVariants.{GoesOn, Over}
+use Rattle.std.specs.declared.option.Option.TheVariants.{None, Some}
 use Rattle.trace.specs.declared.run.Stage.{Stage}
 use Rattle.trace.specs.declared.run.Stage.TheVariants as stage
 use Rattle.trace.specs.declared.run.Trace.{Trace}
@@ -37,16 +38,16 @@ module _ (t : Trace) (ws sems : List ℕ) where
   abbrev stepped : Outcome
   stepped = step_of t.channel (lending ws sems)
 
-  answer_same : (a : Answer) → stepped.stepped.answer ≡ a → Same (answered t stepped.stepped.channel stepped.memory a)
+  answer_same : (a : Result Event Refusal) → stepped.stepped.answer ≡ a → Same (answered t stepped.stepped.channel stepped.memory a)
   unfolding answered step_refusal stage_number
-  answer_same (answer.Event e) h over = absurd (omega arith)
-  answer_same (answer.Refused r) h over =
+  answer_same (Ok e) h over = absurd (omega arith)
+  answer_same (Err r) h over =
       (refl, ((channel.refused).step_unchanged t.channel (lending ws sems) stepped.memory stepped.stepped (record { answer = refl; memory = refl }) r.number (ap step_refusal h)).1)
 
   ending_same : (e : Ending) → Same (or_end t ws sems e)
   unfolding or_end
-  ending_same GoesOn over = answer_same stepped.stepped.answer refl over
-  ending_same (Over e) over = (refl, refl)
+  ending_same None over = answer_same stepped.stepped.answer refl over
+  ending_same (Some e) over = (refl, refl)
 
   tell_same : (s : Stage) → Same (by_stage t ws sems s)
   unfolding by_stage

@@ -1,14 +1,15 @@
 -- Every line has room for its text. Assumes nothing.
-use Prim.Native.Nat.{ℕ, zero, suc, ◌+◌, ◌-◌, ◌^◌, ◌≤◌, min}
+use Prim.Native.Nat.{ℕ, suc, ◌+◌, ◌-◌, ◌^◌, ◌≤◌, min}
 use Prim.Native.String.{String}
 use mathlib.Core.Path.{◌≡◌, refl, ap, ◌∙◌}
 use mathlib.Core.Bool.{Bool}
-use mathlib.Core.List.{List, [], ◌∷◌, ◌++◌}
+use mathlib.Core.List.{List, [], ◌++◌}
 use mathlib.Core.Option.{Option, none, some}
 use native.Mathlib.Omega.{arith}
 use lib.Dec.{ltb}
 use lib.ListN.{length, take, replicate, length-append}
 use lib.Seq.{take-append_seam, drop-append_seam, take-append-add}
+use Rattle.std.proofs.lemmas.List.{take-replicate}
 use Rattle.word.specs.Lowest.{lowest}
 use Rattle.word.proofs.Lowest.{lowest_some}
 use Rattle.event.specs.Event.{number}
@@ -112,18 +113,12 @@ refused_short : (n : ℕ) → length (refused_text n) ≤ 18
 unfolding refused_text text
 refused_short n = let name = refusal_short n in simp (length-append {A = ℕ}) (omega arith)
 
--- some of many that are equal
-some_of : (n m z : ℕ) → n ≤ m → take n (replicate m z) ≡ replicate n z
-some_of zero m z h = refl
-some_of (suc n) zero z h = absurd (omega arith)
-some_of (suc n) (suc m) z h = ap {B = List ℕ} (λ r. z ∷ r) (some_of n m z (omega arith))
-
 -- a line's bytes are its text and then zeros, where the text is short
 bytes_are : (t : List ℕ) → length t ≤ 160 → take 160 (t ++ replicate 160 0) ≡ t ++ replicate (160 - length t) 0
 bytes_are t h =
     let left = 160 - length t in
     let sum : 160 ≡ length t + left = omega arith in
-    ap (λ (n : ℕ). take n (t ++ replicate 160 0)) sum ∙ take-append-add t (replicate 160 0) left ∙ ap (λ (z : List ℕ). t ++ z) (some_of left 160 0 (omega arith))
+    ap (λ (n : ℕ). take n (t ++ replicate 160 0)) sum ∙ take-append-add t (replicate 160 0) left ∙ ap (λ (z : List ℕ). t ++ z) (take-replicate left 160 0 (omega arith))
 
 has : (t : List ℕ) (l : Line) → length t ≤ 160 → l ≡ line_of t → Has t l
 unfolding line_of

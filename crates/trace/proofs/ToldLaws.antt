@@ -13,8 +13,8 @@ use Rattle.trace.specs.declared.end.Cause.{Cause}
 use Rattle.trace.specs.declared.end.Cause.TheVariants as cause
 use Rattle.trace.specs.declared.end.End.{End}
 use Rattle.trace.specs.declared.end.End.TheVariants.{Error, Idle, Budget}
-use Rattle.trace.specs.declared.end.Ending.{Ending}
-use Rattle.trace.specs.declared.end.Ending.TheVariants.{GoesOn, Over as Ended}
+use Rattle.trace.specs.End.{Ending}
+use Rattle.std.specs.declared.option.Option.TheVariants.{None, Some}
 use Rattle.trace.specs.declared.run.Stage.{Stage}
 use Rattle.trace.specs.declared.run.Stage.TheVariants.{Refused, Running, Over}
 
@@ -63,22 +63,22 @@ some_end Budget h = omega arith
 
 pub endings : Endings
 unfolding ending_number ending_values ending_why
-endings GoesOn GoesOn n v w = refl
-endings GoesOn (Ended e) n v w = absurd (some_end e (sym n))
-endings (Ended d) GoesOn n v w = absurd (some_end d n)
-endings (Ended d) (Ended e) n v w = ap Ended (end_told d e n v w)
+endings None None n v w = refl
+endings None (Some e) n v w = absurd (some_end e (sym n))
+endings (Some d) None n v w = absurd (some_end d n)
+endings (Some d) (Some e) n v w = ap Some (end_told d e n v w)
 
-pub goes_on : (a : Ending) → ending_number a ≡ 0 → a ≡ GoesOn
+pub goes_on : (a : Ending) → ending_number a ≡ 0 → a ≡ None
 unfolding ending_number
-goes_on GoesOn h = refl
-goes_on (Ended e) h = absurd (some_end e h)
+goes_on None h = refl
+goes_on (Some e) h = absurd (some_end e h)
 
 -- what a stage is by its number, or by its refusal
 pub is_refused : (s : Stage) (n : ℕ) → stage_refusal s ≡ some n → s ≡ Refused (record { number = n })
 unfolding stage_refusal
 is_refused (Refused r) n h = let z : r.number ≡ n = cc in ap (λ (k : ℕ). Refused (record { number = k })) z
-is_refused Running n h = let z : ◌≡◌ {A = ℕ} 0 1 = cc in absurd (omega arith)
-is_refused Over n h = let z : ◌≡◌ {A = ℕ} 0 1 = cc in absurd (omega arith)
+is_refused Running n h = cc
+is_refused Over n h = cc
 
 pub is_running : (s : Stage) → stage_number s ≡ 2 → s ≡ Running
 unfolding stage_number

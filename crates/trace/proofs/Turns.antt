@@ -1,7 +1,7 @@
 -- `Printed`: the lines of a run, in turn, are what the program prints. Assumes nothing.
 use Prim.Native.Nat.{ℕ, zero, suc, ◌+◌, ◌^◌, ◌≤◌, ◌<◌}
 use mathlib.Core.Path.{◌≡◌, refl, sym, ap, subst, ◌∙◌}
-use mathlib.Core.Bool.{Bool, true, false, false≢true}
+use mathlib.Core.Bool.{Bool, true, false}
 use mathlib.Core.List.{List, [], ◌++◌, append_assoc, append-nil}
 use mathlib.Core.Logic.{⊎_elim}
 use mathlib.Core.Option.{Option, none, some}
@@ -25,7 +25,7 @@ use Rattle.channel.specs.Putting.{put_of}
 use Rattle.channel.specs.Many.{after}
 use Rattle.channel.specs.Promises.{WellFormed}
 use Rattle.channel.specs.declared.record.Channel.{Channel}
-use Rattle.channel.specs.declared.stepping.Answer.TheVariants as answer
+use Rattle.std.specs.declared.result.Result.TheVariants.{Ok}
 use Rattle.channel.specs.declared.stepping.Stepped.{Stepped}
 use Rattle.channel.proofs.Refusals.{refused_one}
 use Rattle.channel.proofs.StaysWellFormed.{put_keeps}
@@ -33,15 +33,14 @@ use Rattle.channel.proofs.Many.{is_event, none_refused}
 use Rattle.trace.specs.Text.{or_else}
 use Rattle.trace.specs.Line.{line_of}
 use Rattle.trace.specs.Lines.{step_text, end_text, refused_text}
-use Rattle.trace.specs.End.{ending_of}
+use Rattle.trace.specs.End.{Ending, ending_of}
 use Rattle.trace.specs.LineByLine.{fresh, trace_at, program_cases, begin_of, closed, answered, or_end, by_stage}
 use Rattle.trace.specs.Printed.{lent_for, moment_after, step_after, ending_at, over?, steps_of, answer_text, line_after, lines_from, line_of_end, run_text, printed}
 use Rattle.trace.specs.Answers.{stage_number}
 use Rattle.trace.specs.Outcomes.{Tells}
 use Rattle.trace.specs.Promises.{Tells-in-turn, over, line, LeadsTo, none_made, step_made}
 use Rattle.trace.specs.declared.end.End.{End}
-use Rattle.trace.specs.declared.end.Ending.{Ending}
-use Rattle.trace.specs.declared.end.Ending.TheVariants.{GoesOn, Over}
+use Rattle.std.specs.declared.option.Option.TheVariants.{None, Some}
 use Rattle.trace.specs.declared.run.Stage.TheVariants as stage
 use Rattle.trace.specs.declared.run.Trace.{Trace}
 use Rattle.trace.specs.declared.run.Told.{Told}
@@ -49,15 +48,15 @@ use Rattle.trace.proofs.Beginning.{fresh_formed, begins_refused, begins_put, few
 use Rattle.trace.proofs.Room.{step_has, end_has, refused_has}
 
 -- whether an ending is over, and then which it is
-goes_on : (e : Ending) → over? e ≡ false → e ≡ GoesOn
+goes_on : (e : Ending) → over? e ≡ false → e ≡ None
 unfolding over?
-goes_on GoesOn h = refl
-goes_on (Over e) h = absurd (false≢true (sym h))
+goes_on None h = refl
+goes_on (Some e) h = cc
 
-is_over : (e : Ending) → over? e ≡ true → (x : End) × (e ≡ Over x)
+is_over : (e : Ending) → over? e ≡ true → (x : End) × (e ≡ Some x)
 unfolding over?
-is_over GoesOn h = absurd (false≢true h)
-is_over (Over e) h = (e, refl)
+is_over None h = absurd cc
+is_over (Some e) h = (e, refl)
 
 -- after 65,536 steps it is
 over_late : (c : Channel) → over? (ending_of c 65536) ≡ true
@@ -119,7 +118,7 @@ module _ (bytes : List ℕ) (narrow : (i : ℕ) → get_or bytes i 0 < 2 ^ 8) (f
   last_line n = line_of_end (ending_at bytes n) n (moment_after bytes n).channel
 
   -- the end line
-  last_turn : (n : ℕ) (e : End) → ending_at bytes n ≡ Over e → Tells-in-turn (words_of bytes) 1 (at n) (moment_after bytes n).semaphores (last_line n)
+  last_turn : (n : ℕ) (e : End) → ending_at bytes n ≡ Some e → Tells-in-turn (words_of bytes) 1 (at n) (moment_after bytes n).semaphores (last_line n)
   unfolding by_stage or_end line_of_end stage_number
   last_turn n e h =
       let c = (moment_after bytes n).channel in
@@ -131,8 +130,8 @@ module _ (bytes : List ℕ) (narrow : (i : ℕ) → get_or bytes i 0 < 2 ^ 8) (f
   -- the line of a step, and those after it
   next_turn :
       (n k : ℕ) (e : Event) (rest : List ℕ)
-      → ending_at bytes n ≡ GoesOn
-      → (step_after bytes n).stepped.answer ≡ answer.Event e
+      → ending_at bytes n ≡ None
+      → (step_after bytes n).stepped.answer ≡ Ok e
       → Tells-in-turn (words_of bytes) k (at (suc n)) (moment_after bytes (suc n)).semaphores rest
       → Tells-in-turn (words_of bytes) (suc k) (at n) (moment_after bytes n).semaphores (line_after bytes n ++ rest)
   unfolding by_stage or_end answered answer_text after

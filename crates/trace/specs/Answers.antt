@@ -8,8 +8,8 @@ use Rattle.trace.specs.declared.end.Cause.{Cause}
 use Rattle.trace.specs.declared.end.Cause.TheVariants as cause
 use Rattle.trace.specs.declared.end.End.{End}
 use Rattle.trace.specs.declared.end.End.TheVariants.{Error, Idle, Budget}
-use Rattle.trace.specs.declared.end.Ending.{Ending}
-use Rattle.trace.specs.declared.end.Ending.TheVariants as ending
+use Rattle.trace.specs.End.{Ending}
+use Rattle.std.specs.declared.option.Option.TheVariants.{None, Some}
 use Rattle.trace.specs.declared.run.Stage.{Stage}
 use Rattle.trace.specs.declared.run.Stage.TheVariants as stage
 
@@ -56,13 +56,13 @@ end_why Idle = none
 end_why Budget = none
 
 unfoldable pub ending_number : Ending → ℕ
-ending_number ending.GoesOn = 0
-ending_number (ending.Over e) = end_number e
+ending_number None = 0
+ending_number (Some e) = end_number e
 
 unfoldable pub ending_values : Ending → List ℕ
-ending_values ending.GoesOn = []
-ending_values (ending.Over e) = end_values e
+ending_values None = []
+ending_values (Some e) = end_values e
 
 unfoldable pub ending_why : Ending → Option ℕ
-ending_why ending.GoesOn = none
-ending_why (ending.Over e) = end_why e
+ending_why None = none
+ending_why (Some e) = end_why e

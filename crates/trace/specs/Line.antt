@@ -1,5 +1,6 @@
 -- A line: 160 bytes, of which the text comes first. Every line of the trace has room (`Whole`).
-use Rattle.std.specs.Prelude.{ℕ, ◌+◌, min, List, [], ◌∷◌, ◌++◌, leb, length, take, set, replicate}
+use Rattle.std.specs.Prelude.{ℕ, ◌+◌, min, List, ◌++◌, leb, length, take, set, replicate}
+use mathlib.Core.List.{foldl}
 use Rattle.word.specs.First.{choose}
 use Rattle.trace.specs.declared.line.Line.{Line}
 
@@ -12,5 +13,4 @@ unfoldable pub pushed : Line → ℕ → Line
 pushed l b = choose (leb 160 l.length) l (record { bytes = set l.bytes l.length b; length = l.length + 1 })
 
 unfoldable pub added : Line → List ℕ → Line
-added l [] = l
-added l (b ∷ bs) = added (pushed l b) bs
+added l bs = foldl pushed l bs

@@ -8,14 +8,15 @@ use Rattle.channel.specs.Opening.{open_of}
 use Rattle.channel.specs.Putting.{put_of}
 use Rattle.channel.specs.Stepping.{Outcome, step_of}
 use Rattle.channel.specs.declared.record.Channel.{Channel}
-use Rattle.channel.specs.declared.stepping.Answer.{Answer}
-use Rattle.channel.specs.declared.stepping.Answer.TheVariants as answer
+use Rattle.word.specs.declared.setting.Refusal.{Refusal}
+use Rattle.event.specs.declared.Event.{Event}
+use Rattle.std.specs.declared.result.Result.{Result}
+use Rattle.std.specs.declared.result.Result.TheVariants.{Ok, Err}
 use Rattle.trace.specs.Line.{line_of}
-use Rattle.trace.specs.End.{ending_of}
+use Rattle.trace.specs.End.{Ending, ending_of}
 use Rattle.trace.specs.Lines.{step_text, end_text, refused_text}
 use Rattle.trace.specs.declared.line.Line.{Line}
-use Rattle.trace.specs.declared.end.Ending.{Ending}
-use Rattle.trace.specs.declared.end.Ending.TheVariants.{GoesOn, Over as Ended}
+use Rattle.std.specs.declared.option.Option.TheVariants.{None, Some}
 use Rattle.trace.specs.declared.run.Stage.{Stage}
 use Rattle.trace.specs.declared.run.Stage.TheVariants.{Refused, Running, Over}
 use Rattle.trace.specs.declared.run.Trace.{Trace}
@@ -57,21 +58,21 @@ abbrev pub closing : Trace → List ℕ → List ℕ → Leaving
 closing t line sems = record { told = closed t (line_of line); memory = sems }
 
 -- T3: the line of a further step, with the read address before it; where the step is refused, the refusal's
-unfoldable pub answered : Trace → Channel → List ℕ → Answer → Leaving
-answered t c memory (answer.Event e) =
+unfoldable pub answered : Trace → Channel → List ℕ → Result Event Refusal → Leaving
+answered t c memory (Ok e) =
     record {
       told = record { line = line_of (step_text (t.steps + 1) t.channel.pusher.get e); trace = trace_at Running c (t.steps + 1) };
       memory = memory;
     }
-answered t c memory (answer.Refused r) = closing t (refused_text r.number) memory
+answered t c memory (Err r) = closing t (refused_text r.number) memory
 
 abbrev pub stepped_on : Trace → Outcome → Leaving
 stepped_on t o = answered t o.stepped.channel o.memory o.stepped.answer
 
 -- T6, T7: the end line where the run has ended, else that of a further step
 unfoldable pub or_end : Trace → List ℕ → List ℕ → Ending → Leaving
-or_end t ws sems GoesOn = stepped_on t (step_of t.channel (lending ws sems))
-or_end t ws sems (Ended e) = closing t (end_text e t.steps t.channel.pusher.get t.channel.puller.reference) sems
+or_end t ws sems None = stepped_on t (step_of t.channel (lending ws sems))
+or_end t ws sems (Some e) = closing t (end_text e t.steps t.channel.pusher.get t.channel.puller.reference) sems
 
 abbrev pub running : Trace → List ℕ → List ℕ → Leaving
 running t ws sems = or_end t ws sems (ending_of t.channel t.steps)

@@ -1,7 +1,6 @@
 -- The names of kinds, causes, whys and refusals, by their numbers.
-use Rattle.std.specs.Prelude.{ℕ, zero, suc, List, [], ◌∷◌, eqb, get_or}
+use Rattle.std.specs.Prelude.{ℕ, List, [], ◌∷◌, get_or, Option}
 use Prim.Native.String.{String}
-use Rattle.word.specs.First.{choose}
 use Rattle.event.specs.declared.Kind.{Kind}
 use Rattle.event.specs.Event.{number}
 use Rattle.pusher.specs.Record as pusher
@@ -14,12 +13,6 @@ use Rattle.trace.specs.declared.end.Cause.TheVariants.{Pusher, Puller}
 -- the name at a number's place in a list that counts from 1; a number that the list doesn't have has none
 abbrev pub name : List String → ℕ → String
 name names n = get_or ("" ∷ names) n ""
-
--- the same where a list is one text, with a space before each name: what stands behind so many spaces, up to the next
-unfoldable pub name_at : List ℕ → ℕ → List ℕ
-name_at [] n = []
-name_at (b ∷ bs) zero = choose (eqb b 32) [] (b ∷ name_at bs zero)
-name_at (b ∷ bs) (suc n) = name_at bs (choose (eqb b 32) n (suc n))
 
 -- T5: the kinds, in the order of their numbers
 unfoldable pub kinds : List String
@@ -53,10 +46,10 @@ pusher_errors = "CALL" ∷ "NON_CACHE" ∷ "RETURN" ∷ "RESERVED_CMD" ∷ "IB" 
 unfoldable pub puller_errors : List String
 puller_errors = "NO_HASH" ∷ "EMPTY_SUBCHANNEL" ∷ "SEMAPHORE_1" ∷ "SEMAPHORE_2" ∷ "SEMAPHORE_3" ∷ "SEMAPHORE_4" ∷ []
 
-unfoldable pub pusher_name : PusherError → String
+unfoldable pub pusher_name : Option PusherError → String
 pusher_name e = name pusher_errors (pusher.number e)
 
-unfoldable pub puller_name : PullerError → String
+unfoldable pub puller_name : Option PullerError → String
 puller_name e = name puller_errors (puller.number e)
 
 unfoldable pub cause_name : Cause → String

@@ -6,11 +6,10 @@ use Rattle.event.specs.declared.Event.{Event}
 use Rattle.channel.specs.declared.record.Channel.{Channel}
 use Rattle.trace.specs.Line.{line_of}
 use Rattle.trace.specs.Lines.{step_text, end_text, refused_text}
-use Rattle.trace.specs.End.{ending_of}
+use Rattle.trace.specs.End.{Ending, ending_of}
 use Rattle.trace.specs.LineByLine.{fitting, begin_of, Leaving, tell_of}
 use Rattle.trace.specs.declared.line.Line.{Line}
 use Rattle.trace.specs.declared.end.End.{End}
-use Rattle.trace.specs.declared.end.Ending.{Ending}
 use Rattle.trace.specs.declared.run.Trace.{Trace}
 use Rattle.trace.specs.declared.run.Told.{Told}
 

@@ -8,14 +8,15 @@ use Rattle.channel.specs.Loan.{Loan}
 use Rattle.channel.specs.Many.{Moment, step_at, after}
 use Rattle.channel.specs.Stepping.{Outcome}
 use Rattle.channel.specs.declared.record.Channel.{Channel}
-use Rattle.channel.specs.declared.stepping.Answer.{Answer}
-use Rattle.channel.specs.declared.stepping.Answer.TheVariants as answer
+use Rattle.word.specs.declared.setting.Refusal.{Refusal}
+use Rattle.event.specs.declared.Event.{Event}
+use Rattle.std.specs.declared.result.Result.{Result}
+use Rattle.std.specs.declared.result.Result.TheVariants.{Ok, Err}
 use Rattle.trace.specs.Text.{or_else}
-use Rattle.trace.specs.End.{ending_of}
+use Rattle.trace.specs.End.{Ending, ending_of}
 use Rattle.trace.specs.Lines.{step_text, end_text, refused_text}
 use Rattle.trace.specs.LineByLine.{program_cases, begin_of, lending}
-use Rattle.trace.specs.declared.end.Ending.{Ending}
-use Rattle.trace.specs.declared.end.Ending.TheVariants.{GoesOn, Over}
+use Rattle.std.specs.declared.option.Option.TheVariants.{None, Some}
 
 -- T1: what the run is lent: the words that the bytes are, and at first 1,024 semaphore words that are 0
 abbrev pub lent_for : List ℕ → Loan
@@ -32,17 +33,17 @@ abbrev pub ending_at : List ℕ → ℕ → Ending
 ending_at bytes n = ending_of (moment_after bytes n).channel n
 
 unfoldable pub over? : Ending → Bool
-over? GoesOn = false
-over? (Over e) = true
+over? None = false
+over? (Some e) = true
 
 -- T6: how many steps the run makes: the lowest number after which it has ended, which 65,536 is at the latest
 unfoldable pub steps_of : List ℕ → ℕ
 steps_of bytes = or_else (lowest (λ n. over? (ending_at bytes n)) 65536) 65536
 
 -- the line of a step; none of this run is refused (`Printed`)
-unfoldable pub answer_text : ℕ → ℕ → Answer → List ℕ
-answer_text step get (answer.Event e) = step_text step get e
-answer_text step get (answer.Refused r) = refused_text r.number
+unfoldable pub answer_text : ℕ → ℕ → Result Event Refusal → List ℕ
+answer_text step get (Ok e) = step_text step get e
+answer_text step get (Err r) = refused_text r.number
 
 abbrev pub line_after : List ℕ → ℕ → List ℕ
 line_after bytes n = answer_text (n + 1) (moment_after bytes n).channel.pusher.get (step_after bytes n).stepped.answer
@@ -54,8 +55,8 @@ lines_from bytes n (suc k) = line_after bytes n ++ lines_from bytes (suc n) k
 
 -- T7: the end line, after n steps
 unfoldable pub line_of_end : Ending → ℕ → Channel → List ℕ
-line_of_end GoesOn n c = []
-line_of_end (Over e) n c = end_text e n c.pusher.get c.puller.reference
+line_of_end None n c = []
+line_of_end (Some e) n c = end_text e n c.pusher.get c.puller.reference
 
 unfoldable pub run_text : List ℕ → List ℕ
 run_text bytes = lines_from bytes 0 (steps_of bytes) ++ line_of_end (ending_at bytes (steps_of bytes)) (steps_of bytes) (moment_after bytes (steps_of bytes)).channel

@@ -29,7 +29,7 @@ use Rattle.trace.specs.Outcomes.{StepLine, EndLine, RefusedLine, Ends, Loads, Be
 use Rattle.trace.specs.declared.line.Line.{Line}
 use Rattle.trace.specs.declared.end.Cause.{Cause}
 use Rattle.trace.specs.declared.end.End.{End}
-use Rattle.trace.specs.declared.end.Ending.{Ending}
+use Rattle.trace.specs.End.{Ending}
 use Rattle.trace.specs.declared.run.Trace.{Trace}
 use Rattle.trace.specs.declared.run.Told.{Told}
 

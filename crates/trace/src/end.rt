@@ -8,11 +8,11 @@ use pusher::PusherError;
 // The most steps of a run.
 pub const BUDGET: u32 = 65_536;
 
-// What stopped a channel: the error of either half.
+// What stopped a channel: the error of either half. A cause without an error has no name.
 #[derive(Clone, Copy)]
 pub enum Cause {
-    Pusher { error: PusherError },
-    Puller { error: PullerError },
+    Pusher { error: Option<PusherError> },
+    Puller { error: Option<PullerError> },
 }
 
 #[derive(Clone, Copy)]
@@ -22,40 +22,26 @@ pub enum End {
     Budget,
 }
 
-#[derive(Clone, Copy)]
-pub enum Ending {
-    GoesOn,
-    Over { end: End },
-}
-
 // Whether a run has ended after so many steps, and how.
 #[tactic(auto, unfolding(crate::specs::End::ending_of, channel::specs::Stepping::is_stopped, crate::specs::End::cause_of, word::specs::First::choose))]
-pub fn ended(channel: Channel, steps: u32) -> Ending
+pub fn ended(channel: Channel, steps: u32) -> Option<End>
     ensures { Ends channel steps result }
 {
-    let pusher = channel.pusher;
-    if pusher.stopped() {
-        let error = pusher.error;
-        return Ending::Over {
-            end: End::Error {
-                cause: Cause::Pusher { error },
-            },
-        };
+    if channel.pusher.stopped() {
+        let error = channel.pusher.error;
+        Some(End::Error {
+            cause: Cause::Pusher { error },
+        })
+    } else if channel.puller.stopped() {
+        let error = channel.puller.error;
+        Some(End::Error {
+            cause: Cause::Puller { error },
+        })
+    } else if channel.idle() {
+        Some(End::Idle)
+    } else if BUDGET <= steps {
+        Some(End::Budget)
+    } else {
+        None
     }
-    let puller = channel.puller;
-    if puller.stopped() {
-        let error = puller.error;
-        return Ending::Over {
-            end: End::Error {
-                cause: Cause::Puller { error },
-            },
-        };
-    }
-    if channel.idle() {
-        return Ending::Over { end: End::Idle };
-    }
-    if BUDGET <= steps {
-        return Ending::Over { end: End::Budget };
-    }
-    Ending::GoesOn
 }

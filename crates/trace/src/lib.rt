@@ -6,7 +6,7 @@ mod line;
 mod run;
 mod text;
 
-pub use end::{BUDGET, Cause, End, Ending, ended};
+pub use end::{BUDGET, Cause, End, ended};
 pub use line::{Line, MOST_TEXT};
 pub use run::{MOST_BYTES, Stage, Told, Trace, begin, next_line, words_in};
 pub use text::{end_line, refused_line, step_line};

@@ -1,13 +1,13 @@
 // The run of the program, line by line.
 ghost use Rattle.std.specs.Prelude.{◌≡◌, ◌<◌, min};
 ghost use Rattle.channel.specs.Stepping.{step_of};
-ghost use Rattle.trace.specs.LineByLine.{lending, closed, running, stepped_on};
+ghost use Rattle.trace.specs.LineByLine.{trace_at, lending, closed, running, stepped_on};
 ghost use Rattle.trace.specs.Outcomes.{Loads, Begins, Leaves, Tells};
 
-use crate::end::{Ending, ended};
-use crate::line::{Line, empty};
+use crate::end::ended;
+use crate::line::Line;
 use crate::text::{end_line, refused_line, step_line};
-use channel::{Answer, Channel};
+use channel::Channel;
 use word::{Level, Mode, Refusal, word_at};
 
 // The most bytes that the program takes: 8,192 words.
@@ -40,17 +40,11 @@ pub struct Told {
 pub fn words_in(bytes: &[u8], words: &mut [u32]) -> usize
     ensures { Loads bytes.now words.old result words.new }
 {
-    let count = least(bytes.len() / 4, words.len());
-    for place in 0..count {
-        words[place] = word_at(bytes, place);
+    let count = words.len().min(bytes.len() / 4);
+    for (place, word) in words[..count].iter_mut().enumerate() {
+        *word = word_at(bytes, place);
     }
     count
-}
-
-fn least(a: usize, b: usize) -> usize
-    ensures { result ≡ min a b }
-{
-    if a < b { a } else { b }
 }
 
 // The run of an input of so many bytes, before its first step.
@@ -61,29 +55,24 @@ pub fn begin(bytes: usize) -> Trace
     let level = Level::NV40.number;
     let mode = Mode::NV04_STYLE.number;
     let opened = Channel::open(level, mode, 0, false, 0, 0xffff_ffff, &[]);
-    let channel = opened.channel;
     if MOST_BYTES < bytes {
-        return Trace {
-            stage: Stage::Refused {
-                refusal: Refusal::SIZE,
-            },
-            channel,
-            steps: 0,
-        };
+        let refusal = Refusal::SIZE;
+        start(Stage::Refused { refusal }, opened.channel)
+    } else if bytes % 4 != 0 {
+        let refusal = Refusal::LENGTH;
+        start(Stage::Refused { refusal }, opened.channel)
+    } else {
+        let put = opened.channel.set_put(bytes as u32);
+        start(Stage::Running, put.channel)
     }
-    if bytes % 4 != 0 {
-        return Trace {
-            stage: Stage::Refused {
-                refusal: Refusal::LENGTH,
-            },
-            channel,
-            steps: 0,
-        };
-    }
-    let put = channel.set_put(bytes as u32);
-    let channel = put.channel;
+}
+
+// A run of which no step is made.
+fn start(stage: Stage, channel: Channel) -> Trace
+    ensures { result ≡ trace_at stage channel 0 }
+{
     Trace {
-        stage: Stage::Running,
+        stage,
         channel,
         steps: 0,
     }
@@ -94,63 +83,60 @@ pub fn begin(bytes: usize) -> Trace
 pub fn next_line(trace: Trace, words: &[u32], semaphores: &mut [u32]) -> Told
     ensures { Tells trace words.now semaphores.old result semaphores.new }
 {
-    let stage = trace.stage;
-    match stage {
-        Stage::Refused { refusal } => close(trace, refused_line(refusal)),
-        Stage::Running => run(trace, words, semaphores),
-        Stage::Over => close(trace, empty()),
+    match trace.stage {
+        Stage::Refused { refusal } => trace.close(refused_line(refusal)),
+        Stage::Running => trace.run(words, semaphores),
+        Stage::Over => trace.close(Line::empty()),
     }
 }
 
-// A run's last line.
-fn close(trace: Trace, line: Line) -> Told
-    ensures { result ≡ closed trace line }
-{
-    let channel = trace.channel;
-    Told {
-        line,
-        trace: Trace {
-            stage: Stage::Over,
-            channel,
-            steps: trace.steps,
-        },
-    }
-}
-
-// The end line where the run has ended, else the line of a further step.
-fn run(trace: Trace, words: &[u32], semaphores: &mut [u32]) -> Told
-    ensures { Leaves (running trace words.now semaphores.old) result semaphores.new }
-{
-    let channel = trace.channel;
-    let ending = ended(channel, trace.steps);
-    if let Ending::Over { end } = ending {
-        let get = channel.pusher.get;
-        let reference = channel.puller.reference;
-        return close(trace, end_line(end, trace.steps, get, reference));
-    }
-    step(trace, words, semaphores)
-}
-
-#[tactic(auto, unfolding(crate::specs::LineByLine::answered))]
-fn step(trace: Trace, words: &[u32], semaphores: &mut [u32]) -> Told
-    requires { trace.steps < 65536 }
-    ensures { Leaves (stepped_on trace (step_of trace.channel (lending words.now semaphores.old))) result semaphores.new }
-{
-    let channel = trace.channel;
-    let get = channel.pusher.get;
-    let steps = trace.steps + 1;
-    let stepped = channel.step(words, &[], &[], semaphores, 0);
-    let channel = stepped.channel;
-    let answer = stepped.answer;
-    match answer {
-        Answer::Event { event } => Told {
-            line: step_line(steps, get, event),
+impl Trace {
+    // A run's last line.
+    fn close(self, line: Line) -> Told
+        ensures { result ≡ closed self line }
+    {
+        Told {
+            line,
             trace: Trace {
-                stage: Stage::Running,
-                channel,
-                steps,
+                stage: Stage::Over,
+                ..self
             },
-        },
-        Answer::Refused { refusal } => close(trace, refused_line(refusal)),
+        }
+    }
+
+    // The end line where the run has ended, else the line of a further step.
+    #[tactic(auto, using(crate::proofs::Telling::within_budget), unfolding(crate::specs::LineByLine::or_end))]
+    fn run(self, words: &[u32], semaphores: &mut [u32]) -> Told
+        ensures { Leaves (running self words.now semaphores.old) result semaphores.new }
+    {
+        match ended(self.channel, self.steps) {
+            Some(end) => {
+                let get = self.channel.pusher.get;
+                let reference = self.channel.puller.reference;
+                self.close(end_line(end, self.steps, get, reference))
+            }
+            None => self.step(words, semaphores),
+        }
+    }
+
+    #[tactic(auto, unfolding(crate::specs::LineByLine::answered))]
+    fn step(self, words: &[u32], semaphores: &mut [u32]) -> Told
+        requires { self.steps < 65536 }
+        ensures { Leaves (stepped_on self (step_of self.channel (lending words.now semaphores.old))) result semaphores.new }
+    {
+        let get = self.channel.pusher.get;
+        let steps = self.steps + 1;
+        let stepped = self.channel.step(words, &[], &[], semaphores, 0);
+        match stepped.answer {
+            Ok(event) => Told {
+                line: step_line(steps, get, event),
+                trace: Trace {
+                    stage: Stage::Running,
+                    channel: stepped.channel,
+                    steps,
+                },
+            },
+            Err(refusal) => self.close(refused_line(refusal)),
+        }
     }
 }

@@ -5,12 +5,13 @@ use mathlib.Core.Bool.{Bool, true, false, not}
 use native.Mathlib.Omega.{arith}
 use lib.Dec.{eqb}
 use borrow.Author.Tests.{eqb-true, eqb-false}
+use Rattle.std.specs.declared.result.Result.TheVariants.{Ok, Err}
 use Rattle.word.specs.Why.{why_number}
 use Rattle.word.proofs.Told.{why_few}
 use Rattle.rules.specs.Judging.{judge_of}
 use Rattle.rules.specs.Answers.{number, verdict_refusal, values, verdict_why}
-use Rattle.rules.specs.declared.judging.Verdict.{Verdict}
-use Rattle.rules.specs.declared.judging.Verdict.TheVariants.{Accepted, Rejected, Refused, Reserved}
+use Rattle.rules.specs.Judging.{Verdict}
+use Rattle.rules.specs.declared.judging.Unfit.TheVariants.{Rejected, Refused, Reserved}
 use Rattle.rules.proofs.Small.{Small, judgement_small}
 use Rattle.upborliya.specs.Packed.{reason_in, refusal_in, why_in, place_in, packed, on}
 use Rattle.upborliya.specs.Promises.{Unpacked, Switches, GivesBack}
@@ -30,7 +31,7 @@ parts a b w c d la lb lw lc ld n e = (omega arith, omega arith, omega arith, ome
 
 unpacks : (v : Verdict) (count n : ℕ) → Small v → count < 2 ^ 16 → n ≡ packed (record { verdict = v; count = count }) → (n < 2 ^ 64) × Unpacked n (record { verdict = v; count = count })
 unfolding packed reason_in refusal_in why_in place_in number verdict_refusal values verdict_why
-unpacks Accepted count n s l e =
+unpacks (Ok u) count n s l e =
     let p = parts 0 0 0 count 0 (omega arith) (omega arith) (omega arith) l (omega arith) n e in (
       p.0,
       record {
@@ -46,7 +47,7 @@ unpacks Accepted count n s l e =
         accepted = (λ h. (refl, refl), λ h. (p.1, p.2));
       },
     )
-unpacks (Rejected r q) count n s l e =
+unpacks (Err (Rejected r q)) count n s l e =
     let p = parts r.number 0 0 count q s.1 (omega arith) (omega arith) l s.2 n e in (
       p.0,
       record {
@@ -62,7 +63,7 @@ unpacks (Rejected r q) count n s l e =
         accepted = (λ h. let b = p.1 in let g = h.0 in absurd (omega (arith, s.0)), λ h. let f = h.1 in let z : ◌≡◌ {A = ℕ} 0 1 = cc in absurd (omega arith));
       },
     )
-unpacks (Refused m) count n s l e =
+unpacks (Err (Refused m)) count n s l e =
     let p = parts 0 m.number 0 count 0 (omega arith) s.1 (omega arith) l (omega arith) n e in (
       p.0,
       record {
@@ -78,7 +79,7 @@ unpacks (Refused m) count n s l e =
         accepted = (λ h. let b = p.2 in let g = h.1 in absurd (omega (arith, s.0)), λ h. let f = h.0 in let z : ◌≡◌ {A = ℕ} 0 1 = cc in absurd (omega arith));
       },
     )
-unpacks (Reserved y q) count n s l e =
+unpacks (Err (Reserved y q)) count n s l e =
     let p = parts 3 0 (why_number y) count q (omega arith) (omega arith) (omega (arith, why_few y)) l s n e in (
       p.0,
       record {

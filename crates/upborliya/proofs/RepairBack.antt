@@ -4,23 +4,24 @@ use mathlib.Core.Path.{◌≡◌, refl, ap, ◌∙◌}
 use mathlib.Core.List.{[], ◌∷◌}
 use mathlib.Core.Option.{some}
 use native.Mathlib.Omega.{arith}
+use Rattle.std.specs.declared.result.Result.{Result}
+use Rattle.std.specs.declared.result.Result.TheVariants.{Ok, Err}
+use Rattle.word.specs.declared.setting.Refusal.{Refusal}
 use Rattle.repair.specs.Answers.{repaired_refusal, repaired_values}
 use Rattle.repair.specs.Outcomes.{Repairs}
-use Rattle.repair.specs.declared.repairing.Repaired.{Repaired}
-use Rattle.repair.specs.declared.repairing.Repaired.TheVariants.{Changes, Refused}
 use Rattle.repair.proofs.Promises.{one, few_changes, small_refusal}
 use Rattle.upborliya.specs.Packed.{packed_repair, on}
 use Rattle.upborliya.specs.Promises.{UnpackedRepair, RepairBack}
 use Rattle.upborliya.proofs.GivesBack.{switched}
 
 unpacks :
-    (a : Repaired) (n : ℕ)
+    (a : Result ℕ Refusal) (n : ℕ)
     → ((c : ℕ) → repaired_values a ≡ c ∷ [] → c ≤ 8192)
     → ((k : ℕ) → repaired_refusal a ≡ some k → k < 2 ^ 8)
     → n ≡ packed_repair a
     → (n < 2 ^ 64) × UnpackedRepair n a
 unfolding packed_repair repaired_values repaired_refusal
-unpacks (Changes c) n few small e =
+unpacks (Ok c) n few small e =
     let l = few c refl in (
       omega arith,
       record {
@@ -31,7 +32,7 @@ unpacks (Changes c) n few small e =
         zeros = (omega arith, omega arith, omega arith);
       },
     )
-unpacks (Refused x) n few small e =
+unpacks (Err x) n few small e =
     let l = small x.number refl in (
       omega arith,
       record {

@@ -1,11 +1,12 @@
 -- The contracts of the functions for C, each as a predicate over inputs, answer and, of the repair, lent memory at exit. The others write
 -- none: it is lent to be read alone.
 use Rattle.std.specs.Prelude.{ℕ, ◌≡◌, List}
+use Rattle.std.specs.declared.result.Result.{Result}
 use Rattle.word.specs.Reading.{read_of}
+use Rattle.word.specs.declared.setting.Refusal.{Refusal}
 use Rattle.word.specs.declared.setting.Setting.{Setting}
 use Rattle.rules.specs.Judging.{judge_of}
 use Rattle.repair.specs.Outcomes.{RepairLoan, Repairs}
-use Rattle.repair.specs.declared.repairing.Repaired.{Repaired}
 use Rattle.upborliya.specs.Packed.{packed, packed_reading, packed_repair, on}
 
 -- `upborliya_judge`: what `judge` answers, with SLI as a number, in one number
@@ -22,6 +23,6 @@ ReadsPacked level mode sli word next r = r ≡ packed_reading (read_of (setting_
 
 -- `upborliya_repair`: what `repair` does and answers, with SLI as a number, in one number
 pub record RepairsPacked (level sli : ℕ) (l : RepairLoan) (r : ℕ) (map list work : List ℕ) : Type 0 where
-  pub answer : Repaired
+  pub answer : Result ℕ Refusal
   pub repairs : Repairs level (on sli) l answer map list work
   pub number : r ≡ packed_repair answer

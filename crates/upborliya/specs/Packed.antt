@@ -1,41 +1,41 @@
 -- The answers in one 64-bit number each, as include/upborliya.h has them.
 use Rattle.std.specs.Prelude.{ℕ, ◌+◌, ◌*◌, ◌%◌, ◌^◌, Bool, not, eqb}
+use Rattle.std.specs.declared.result.Result.{Result}
+use Rattle.std.specs.declared.result.Result.TheVariants.{Ok, Err}
 use Rattle.word.specs.Why.{why_number}
+use Rattle.word.specs.declared.setting.Refusal.{Refusal}
 use Rattle.word.specs.declared.reading.Reading.{Reading}
 use Rattle.word.specs.declared.reading.Reading.TheVariants.{Increasing, NonIncreasing, Sli, Return, Long, OldJump, Jump, Call}
 use Rattle.word.specs.declared.reading.Reading.TheVariants as reading
 use Rattle.rules.specs.Reason.{RESERVED}
-use Rattle.rules.specs.declared.judging.Verdict.{Verdict}
-use Rattle.rules.specs.declared.judging.Verdict.TheVariants.{Accepted, Rejected, Refused, Reserved}
+use Rattle.rules.specs.Judging.{Verdict}
+use Rattle.rules.specs.declared.judging.Unfit.TheVariants.{Rejected, Refused, Reserved}
 use Rattle.rules.specs.declared.judging.Judgement.{Judgement}
-use Rattle.repair.specs.declared.repairing.Repaired.{Repaired}
-use Rattle.repair.specs.declared.repairing.Repaired.TheVariants.{Changes}
-use Rattle.repair.specs.declared.repairing.Repaired.TheVariants as repaired
 
 -- G32: the parts of the answer; 0 stands for none
 unfoldable pub reason_in : Verdict → ℕ
-reason_in Accepted = 0
-reason_in (Rejected r p) = r.number
-reason_in (Refused n) = 0
-reason_in (Reserved y p) = RESERVED
+reason_in (Ok u) = 0
+reason_in (Err (Rejected r p)) = r.number
+reason_in (Err (Refused n)) = 0
+reason_in (Err (Reserved y p)) = RESERVED
 
 unfoldable pub refusal_in : Verdict → ℕ
-refusal_in Accepted = 0
-refusal_in (Rejected r p) = 0
-refusal_in (Refused n) = n.number
-refusal_in (Reserved y p) = 0
+refusal_in (Ok u) = 0
+refusal_in (Err (Rejected r p)) = 0
+refusal_in (Err (Refused n)) = n.number
+refusal_in (Err (Reserved y p)) = 0
 
 unfoldable pub why_in : Verdict → ℕ
-why_in Accepted = 0
-why_in (Rejected r p) = 0
-why_in (Refused n) = 0
-why_in (Reserved y p) = why_number y
+why_in (Ok u) = 0
+why_in (Err (Rejected r p)) = 0
+why_in (Err (Refused n)) = 0
+why_in (Err (Reserved y p)) = why_number y
 
 unfoldable pub place_in : Verdict → ℕ
-place_in Accepted = 0
-place_in (Rejected r p) = p
-place_in (Refused n) = 0
-place_in (Reserved y p) = p
+place_in (Ok u) = 0
+place_in (Err (Rejected r p)) = p
+place_in (Err (Refused n)) = 0
+place_in (Err (Reserved y p)) = p
 
 -- G32: a byte of reason, a byte of refusal, a byte of why, 16 bits of count, 24 of place
 unfoldable pub packed : Judgement → ℕ
@@ -64,9 +64,9 @@ packed_reading (reading.Reserved y) = why_number y * 2 ^ 16 + 9
 packed_reading (reading.Refused r) = r.number * 2 ^ 8 + 10
 
 -- H18: the repair's answer: a byte of refusal and 16 bits of count, where the gatekeeper's has them
-unfoldable pub packed_repair : Repaired → ℕ
-packed_repair (Changes c) = c % 2 ^ 16 * 2 ^ 24
-packed_repair (repaired.Refused n) = n.number * 2 ^ 8
+unfoldable pub packed_repair : Result ℕ Refusal → ℕ
+packed_repair (Ok c) = c % 2 ^ 16 * 2 ^ 24
+packed_repair (Err n) = n.number * 2 ^ 8
 
 -- G32: the SLI setting as a number: 0 is off
 abbrev pub on : ℕ → Bool

@@ -1,9 +1,11 @@
 -- The promises about the functions for C, each a statement that is proved under its own name in proofs/.
 use Rattle.std.specs.Prelude.{ℕ, ◌/◌, ◌%◌, ◌^◌, ◌≤◌, ◌<◌, ◌≡◌, Bool, true, false, List, [], ◌∷◌, ◌⊎◌, ◌↔◌}
 use Rattle.std.proofs.Math.Option.{none, some}
+use Rattle.std.specs.declared.result.Result.{Result}
 use Rattle.word.specs.Answers.{reading_refusal}
 use Rattle.word.specs.Outcomes.{Reads}
 use Rattle.word.specs.Reading as reading
+use Rattle.word.specs.declared.setting.Refusal.{Refusal}
 use Rattle.word.specs.declared.setting.Setting.{Setting}
 use Rattle.word.specs.declared.reading.Reading.{Reading}
 use Rattle.rules.specs.Answers.{number, verdict_refusal, values, verdict_why, Accepts}
@@ -12,7 +14,6 @@ use Rattle.rules.specs.Promises.{Bytes}
 use Rattle.rules.specs.declared.judging.Judgement.{Judgement}
 use Rattle.repair.specs.Answers.{repaired_refusal, repaired_values}
 use Rattle.repair.specs.Outcomes.{RepairLoan, Repairs}
-use Rattle.repair.specs.declared.repairing.Repaired.{Repaired}
 use Rattle.upborliya.specs.Outcomes.{JudgesPacked, ReadsPacked, RepairsPacked}
 
 -- Each contract leaves one outcome.
@@ -86,7 +87,7 @@ ReadingBack =
     → (n < 2 ^ 64) × UnpackedReading n r
 
 -- H18: what the number for C says of a repair
-pub record UnpackedRepair (n : ℕ) (a : Repaired) : Type 0 where
+pub record UnpackedRepair (n : ℕ) (a : Result ℕ Refusal) : Type 0 where
   pub refusal : (k : ℕ) → repaired_refusal a ≡ some k → n / 2 ^ 8 % 2 ^ 8 ≡ k
   pub no_refusal : repaired_refusal a ≡ none → n / 2 ^ 8 % 2 ^ 8 ≡ 0
   pub count : (c : ℕ) → repaired_values a ≡ c ∷ [] → n / 2 ^ 24 % 2 ^ 16 ≡ c
@@ -96,7 +97,7 @@ pub record UnpackedRepair (n : ℕ) (a : Repaired) : Type 0 where
 -- H18: nothing of the answer is lost, and what is written is what `repair` writes
 abbrev pub RepairBack : Type 0
 RepairBack =
-    (level sli : ℕ) (on : Bool) (l : RepairLoan) (n : ℕ) (a : Repaired) (map map' list list' work work' : List ℕ)
+    (level sli : ℕ) (on : Bool) (l : RepairLoan) (n : ℕ) (a : Result ℕ Refusal) (map map' list list' work work' : List ℕ)
     → Switches sli on
     → Repairs level on l a map list work
     → RepairsPacked level sli l n map' list' work'

@@ -4,7 +4,7 @@ ghost use Rattle.upborliya.specs.Packed.{packed, reason_in, refusal_in, why_in, 
 ghost use Rattle.upborliya.specs.Outcomes.{JudgesPacked};
 
 use gate::judge;
-use rules::{Judgement, Reason, Verdict};
+use rules::{Judgement, Reason, Unfit, Verdict};
 
 // Judges a submission. SLI is off for 0, and on for any other number.
 pub fn upborliya_judge(level: u32, sli: u32, words: &[u8], map: &[u8], permit: &[u8]) -> u64
@@ -31,10 +31,10 @@ fn reason_in(verdict: Verdict) -> u8
     ensures { result ≡ reason_in verdict }
 {
     match verdict {
-        Verdict::Accepted => 0,
-        Verdict::Rejected { reason, .. } => reason.number,
-        Verdict::Refused { .. } => 0,
-        Verdict::Reserved { .. } => Reason::RESERVED.number,
+        Ok(()) => 0,
+        Err(Unfit::Rejected { reason, .. }) => reason.number,
+        Err(Unfit::Refused { .. }) => 0,
+        Err(Unfit::Reserved { .. }) => Reason::RESERVED.number,
     }
 }
 
@@ -43,10 +43,10 @@ fn refusal_in(verdict: Verdict) -> u8
     ensures { result ≡ refusal_in verdict }
 {
     match verdict {
-        Verdict::Accepted => 0,
-        Verdict::Rejected { .. } => 0,
-        Verdict::Refused { refusal } => refusal.number,
-        Verdict::Reserved { .. } => 0,
+        Ok(()) => 0,
+        Err(Unfit::Rejected { .. }) => 0,
+        Err(Unfit::Refused { refusal }) => refusal.number,
+        Err(Unfit::Reserved { .. }) => 0,
     }
 }
 
@@ -55,10 +55,10 @@ fn why_in(verdict: Verdict) -> u8
     ensures { result ≡ why_in verdict }
 {
     match verdict {
-        Verdict::Accepted => 0,
-        Verdict::Rejected { .. } => 0,
-        Verdict::Refused { .. } => 0,
-        Verdict::Reserved { why, .. } => why.number(),
+        Ok(()) => 0,
+        Err(Unfit::Rejected { .. }) => 0,
+        Err(Unfit::Refused { .. }) => 0,
+        Err(Unfit::Reserved { why, .. }) => why.number(),
     }
 }
 
@@ -67,9 +67,9 @@ fn place_in(verdict: Verdict) -> u32
     ensures { result ≡ place_in verdict }
 {
     match verdict {
-        Verdict::Accepted => 0,
-        Verdict::Rejected { place, .. } => place,
-        Verdict::Refused { .. } => 0,
-        Verdict::Reserved { place, .. } => place,
+        Ok(()) => 0,
+        Err(Unfit::Rejected { place, .. }) => place,
+        Err(Unfit::Refused { .. }) => 0,
+        Err(Unfit::Reserved { place, .. }) => place,
     }
 }

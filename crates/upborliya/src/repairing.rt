@@ -4,7 +4,8 @@ ghost use Rattle.repair.specs.Outcomes.{to_repair};
 ghost use Rattle.upborliya.specs.Packed.{packed_repair};
 ghost use Rattle.upborliya.specs.Outcomes.{RepairsPacked};
 
-use repair::{Repaired, repair};
+use repair::repair;
+use word::Refusal;
 
 // Writes the exact map over the author's, and lists what changed. SLI is off for 0, and on for any other
 // number.
@@ -24,11 +25,11 @@ pub fn upborliya_repair(
 
 // As the gatekeeper's: the refusal from bit 8 on, the count from bit 24 on.
 #[tactic(auto, unfolding(crate::specs::Packed::packed_repair))]
-fn pack_repaired(repaired: Repaired) -> u64
+fn pack_repaired(repaired: Result<usize, Refusal>) -> u64
     ensures { result ≡ packed_repair repaired }
 {
     match repaired {
-        Repaired::Changes { count } => (count % 0x1_0000) as u64 * 0x100_0000,
-        Repaired::Refused { refusal } => refusal.number as u64 * 0x100,
+        Ok(count) => (count % 0x1_0000) as u64 * 0x100_0000,
+        Err(refusal) => refusal.number as u64 * 0x100,
     }
 }

@@ -1,4 +1,5 @@
 pub mod First
+pub mod Fits
 pub mod Lowest
 pub mod Tests
 pub mod Bits

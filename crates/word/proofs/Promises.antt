@@ -1,5 +1,5 @@
 -- The promises about words, each under the name of its statement. Assumes nothing.
-use Prim.Native.Nat.{ℕ, suc, ◌+◌, ◌^◌, ◌≤◌, ◌<◌}
+use Prim.Native.Nat.{ℕ, suc, ◌^◌, ◌≤◌, ◌<◌}
 use mathlib.Core.Path.{◌≡◌, refl, sym, ap, subst, ◌∙◌}
 use mathlib.Core.Bool.{Bool, true, false, not, false≢true}
 use mathlib.Core.List.{List, [], ◌∷◌, ◌++◌}
@@ -25,14 +25,15 @@ use Rattle.word.specs.Numbers.{Numbers}
 use Rattle.word.specs.Promises.{setting_plain, why_plain, size_plain, write_plain, Within, Available, size, same_words, Refused, One, SaysWhy, AtPlace, ReadBack, WriteBack, Widths, Specials, LittleEndian}
 use Rattle.word.specs.declared.setting.Refusal.{Refusal}
 use Rattle.word.specs.declared.setting.Setting.{Setting}
-use Rattle.word.specs.declared.setting.Check.TheVariants as check
+use Rattle.std.specs.declared.option.Option as Option
+use Rattle.std.specs.declared.option.Option.TheVariants.{None}
+use Rattle.std.specs.declared.result.Result.{Result}
+use Rattle.std.specs.declared.result.Result.TheVariants.{Ok, Err}
 use Rattle.word.specs.declared.why.Why.{Why}
 use Rattle.word.specs.declared.why.Why.TheVariants as why
 use Rattle.word.specs.declared.reading.Reading.{Reading}
 use Rattle.word.specs.declared.reading.Reading.TheVariants.{Increasing, NonIncreasing, Sli, Return, Long, OldJump, Jump, Call, Reserved, Refused as Refusing}
-use Rattle.word.specs.declared.reading.Place.TheVariants as place
-use Rattle.word.specs.declared.writing.Written.{Written}
-use Rattle.word.specs.declared.writing.Written.TheVariants as written
+use Rattle.word.specs.declared.writing.Unwritten.{Unwritten}
 use Rattle.word.proofs.First.{one_outcome, by_test, choose_true, choose_false, first_none, append_none}
 use Rattle.word.proofs.Settings.{accepted, told_first, told_plain, none_fine}
 use Rattle.word.proofs.Usable.{why_number_lem}
@@ -70,16 +71,11 @@ plain : (s : Setting) (w n : ℕ) → reading_refusal (reading_of s w n) ≡ non
 unfolding reading_refusal
 plain s w n = by_reading (λ r. reading_refusal r ≡ none) s w n (λ f i e u. not_refused (command_in f w n) (read_by w n i).command) (λ y. refl)
 
-found : (s : Setting) (ws : List ℕ) (p : ℕ) → place_refusal (choose (ltb p (length ws)) (place.Word (reading_of s (get_or ws p 0) (get_or ws (p + 1) 0))) place.Past) ≡ none
-unfolding place_refusal
-found s ws p = by_test (λ a. place_refusal a ≡ none) (λ t. refl) (λ t. refl)
-
 -- R31
-untouched : (a : Written) (r : Reading) (out exit : List ℕ) (n : ℕ) → exit ≡ out_after a r out → written_refusal a ≡ some n → exit ≡ out
+untouched : (a : Result ℕ Unwritten) (r : Reading) (out exit : List ℕ) (n : ℕ) → exit ≡ out_after a r out → written_refusal a ≡ some n → exit ≡ out
 unfolding out_after written_refusal
-untouched (written.Words k) r out exit n e h = let z : ◌≡◌ {A = ℕ} 0 1 = cc in absurd (omega arith)
-untouched (written.Refused x) r out exit n e h = e
-untouched (written.Form y) r out exit n e h = e
+untouched (Ok k) r out exit n e h = let z : ◌≡◌ {A = ℕ} 0 1 = cc in absurd (omega arith)
+untouched (Err y) r out exit n e h = e
 
 -- a refusal of the writer's tells its number, FORM's too
 tells_refusal : (s : Setting) (r : Reading) (x : Refusal) → written_refusal (refusing s r x) ≡ some x.number
@@ -90,10 +86,10 @@ pub refused : Refused
 unfolding check_of read_of read_at_of write_of check_refusal reading_refusal place_refusal written_refusal
 refused =
     record {
-      check = λ s a c n. told_plain check.Refused check_refusal (λ x. refl) (setting_cases s) (setting_plain s) check.Fine a (setting_agree s [] [] tt) refl c n;
+      check = λ s a c n. told_plain Err check_refusal (λ x. refl) (setting_cases s) (setting_plain s) (Ok tt) a (setting_agree s [] [] tt) refl c n;
       read = λ s w next a c n. told_plain Refusing reading_refusal (λ x. refl) (setting_cases s) (setting_plain s) (reading_of s w next) a (setting_agree s [] [] tt) (plain s w next) c n;
-      read_at = λ s ws p a c n. told_plain place.Refused place_refusal (λ x. refl) (setting_cases s ++ size_cases (length ws)) (setting_plain s ++ size_plain ws) _ a
-          (setting_agree s (size_cases (length ws)) (size_plain ws) (size_agree ws)) (found s ws p) c n;
+      read_at = λ s ws p a c n. told_plain Err place_refusal (λ x. refl) (setting_cases s ++ size_cases (length ws)) (setting_plain s ++ size_plain ws) _ a
+          (setting_agree s (size_cases (length ws)) (size_plain ws) (size_agree ws)) refl c n;
       write = λ s r out a exit c n. told_plain (refusing s r) written_refusal (tells_refusal s r) (setting_cases s ++ write_cases s r (length out)) (setting_plain s ++ write_plain s r out) _ a
           (setting_agree s (write_cases s r (length out)) (write_plain s r out) (write_agree s r out)) refl c.answer n;
       unwritten = λ s r out a exit c n e. untouched a r out exit n c.memory e;
@@ -129,10 +125,10 @@ says_why s r out a exit c n = subst Says (sym c.answer) (go (first cases) refl)
     cases : List Case
     cases = setting_cases s ++ write_cases s r (length out)
 
-    Says : Written → Type 0
+    Says : Result ℕ Unwritten → Type 0
     Says x = written_why x ≡ some n ↔ ((written_refusal x ≡ some 12) × FirstIs (why_plain s (number r)) n)
 
-    go : (o : Option ℕ) → first cases ≡ o → Says (refused_or (refusing s r) o (written.Words (length (own_words r))))
+    go : (o : Option ℕ) → first cases ≡ o → Says (refused_or (refusing s r) o (Ok (length (own_words r))))
     go none e = (λ h. absurd (none-ne-some n h), λ h. absurd (none-ne-some 12 h.0))
     go (some m) e =
         by_test Says
@@ -150,7 +146,7 @@ one =
       read_at = λ s ws i a b p q. one_outcome p q;
       write = λ s r out a b x y p q.
           let e = one_outcome p.answer q.answer in
-          (e, one_outcome (p.memory ∙ ap (λ (z : Written). out_after z r out) e) q.memory);
+          (e, one_outcome (p.memory ∙ ap (λ (z : Result ℕ Unwritten). out_after z r out) e) q.memory);
       present = λ level m a b p q. one_outcome p q;
       special_mask = λ level a b p q. same_bits 64 a b p.wide q.wide (λ n l. one_outcome (p.bit n l) (q.bit n l));
       word_at = λ bytes i a b p q. one_outcome p q;
@@ -174,14 +170,14 @@ widths s w next r e =
     (by_reading Within s w next (λ f i t u. (field_plain (command_in f w next)).0 (numbers_fit_lem f i w next)) (λ y. tt)))
 
 -- what an accepted command has passed
-pub record Passed (s : Setting) (r : Reading) (out : List ℕ) (a : Written) : Type 0 where
+pub record Passed (s : Setting) (r : Reading) (out : List ℕ) (a : Result ℕ Unwritten) : Type 0 where
   pub setting : first (setting_cases s) ≡ none
   pub fields : numbers_fit ((form r).word ++ (form r).next) (values r) ≡ true
   pub there : usable s (form r) ≡ true
   pub room : length (own_words r) ≤ length out
-  pub words : a ≡ written.Words (length (own_words r))
+  pub words : a ≡ Ok (length (own_words r))
 
-pub passed : (s : Setting) (r : Reading) (out : List ℕ) (a : Written) → a ≡ write_of s r (length out) → written_refusal a ≡ none → Passed s r out a
+pub passed : (s : Setting) (r : Reading) (out : List ℕ) (a : Result ℕ Unwritten) → a ≡ write_of s r (length out) → written_refusal a ≡ none → Passed s r out a
 unfolding write_of written_refusal
 passed s r out a e h =
     let cases = setting_cases s ++ write_cases s r (length out) in
@@ -241,7 +237,7 @@ read_back s r out a exit c h =
     let p = passed s r out a c.answer h in
     let k = is_command s r ((form_plain s r).0 p.there) in
     let k_words = length (own_words r) in
-    let front : exit ≡ sets out 0 (own_words r) = c.memory ∙ ap (λ (z : Written). out_after z r out) p.words in
+    let front : exit ≡ sets out 0 (own_words r) = c.memory ∙ ap (λ (z : Result ℕ Unwritten). out_after z r out) p.words in
     let over : exit ≡ own_words r ++ drop k_words out = front ∙ written_over r out p.room in
     record {
       count = ap written_values p.words ∙ ap (λ (n : ℕ). n ∷ []) (size_is r);
@@ -287,7 +283,7 @@ commands s w n r e h = at_setting (first (setting_cases s)) refl e
 
 -- such a word is accepted by the writer, and its words are those that were read
 back_again : (s : Setting) (w n : ℕ) (out : List ℕ) → w < 2 ^ 32 → (f : Form) → In f forms → has_bits f.word w ≡ true → usable s f ≡ true → first (setting_cases s) ≡ none
-    → (a : Written) (exit : List ℕ) → size (command_in f w n) ≤ length out → Writes s (command_in f w n) out a exit
+    → (a : Result ℕ Unwritten) (exit : List ℕ) → size (command_in f w n) ≤ length out → Writes s (command_in f w n) out a exit
     → (written_refusal a ≡ none) × (exit ≡ same_words (command_in f w n) w n ++ drop (size (command_in f w n)) out)
 unfolding out_after written_refusal
 back_again s w n out h f i t u d a exit space c =
@@ -295,9 +291,9 @@ back_again s w n out h f i t u d a exit space c =
     let room : length (own_words r) ≤ length out = rw size_is space in
     let same : form r ≡ f = (read_by w n i).same in
     let past : Past s r = record { fine = none_fine s d; fields = numbers_fit_lem f i w n; there = ap (usable s) same ∙ u } in
-    let words : a ≡ written.Words (length (own_words r)) = c.answer ∙ by_words s r (length out) past refl room in (
+    let words : a ≡ Ok (length (own_words r)) = c.answer ∙ by_words s r (length out) past refl room in (
       ap written_refusal words,
-      c.memory ∙ ap (λ (z : Written). out_after z r out) words ∙ written_over r out room
+      c.memory ∙ ap (λ (z : Result ℕ Unwritten). out_after z r out) words ∙ written_over r out room
           ∙ rw size_is (ap (λ (l : List ℕ). l ++ drop (size r) out) (words_back f i w n h t)),
     )
 
@@ -310,7 +306,7 @@ write_back s w next r h e k out a exit space c =
     (back_again s w next out h (form_of w) q.member q.bits_fit q.there q.setting a exit) space c
 
 -- neither a refusal nor a place past the last word has a reading
-nothing : (o : Option ℕ) → place_values (refused_or place.Refused o place.Past) ≡ []
+nothing : (o : Option ℕ) → place_values (refused_or Err o (Ok None)) ≡ []
 unfolding refused_or place_values
 nothing none = refl
 nothing (some n) = refl
@@ -322,14 +318,14 @@ at_place =
     record {
       inside = λ s ws p a r c e h d.
           let cases = setting_cases s ++ size_cases (length ws) in
-          let all : first cases ≡ none = sym (told_first place.Refused place_refusal (λ x. refl) cases _ a (found s ws p) c) ∙ e in
+          let all : first cases ≡ none = sym (told_first Err place_refusal (λ x. refl) cases _ a refl c) ∙ e in
           let two = append_none (setting_cases s) (size_cases (length ws)) all in
-          let there = c ∙ accepted place.Refused _ all ∙ choose_true (lt-ltb _ _ h) _ _ in
+          let there = c ∙ accepted Err _ all ∙ ap Ok (choose_true (lt-ltb _ _ h) _ _) in
           let same = sym (d ∙ accepted Refusing _ two.0) in
           (ap place_values there ∙ ap (λ (x : Reading). number x ∷ values x) same, ap place_why there ∙ ap why same);
       past = λ s ws p a c h.
           let o = first (setting_cases s ++ size_cases (length ws)) in
-          ap place_values (c ∙ ap (refused_or place.Refused o) (choose_false (le-ltb _ _ h) _ _)) ∙ nothing o;
+          ap place_values (c ∙ ap (λ (x : Option.Option Reading). refused_or Err o (Ok x)) (choose_false (le-ltb _ _ h) _ _)) ∙ nothing o;
     }
 
 pub specials : Specials

@@ -10,7 +10,7 @@ use Rattle.word.specs.Setting.{setting_cases, refused_or, check_of}
 use Rattle.word.specs.Answers.{check_refusal}
 use Rattle.word.specs.declared.setting.Refusal.{Refusal}
 use Rattle.word.specs.declared.setting.Setting.{Setting}
-use Rattle.word.specs.declared.setting.Check.TheVariants.{Fine, Refused}
+use Rattle.std.specs.declared.result.Result.TheVariants.{Ok, Err}
 use Rattle.word.proofs.First.{or_else, first_append, Agree, first_is}
 
 -- a case that holds decides a list of cases, and one that does not is passed over
@@ -55,29 +55,29 @@ module _ {A : Type 0} (refuse : Refusal → A) (tells : A → Option ℕ) (numbe
       (λ k. f.0 (sym t ∙ k), λ k. t ∙ f.1 k)
 
 module _ (s : Setting) where
-  pub none_fine : first (setting_cases s) ≡ none → check_of s ≡ Fine
+  pub none_fine : first (setting_cases s) ≡ none → check_of s ≡ Ok tt
   unfolding check_of refused_or
   none_fine e = rw e
 
   -- the check tells the first of the setting's cases that holds
   check_first : check_refusal (check_of s) ≡ first (setting_cases s)
   unfolding check_of check_refusal
-  check_first = told_first Refused check_refusal (λ x. refl) (setting_cases s) Fine (check_of s) refl refl
+  check_first = told_first Err check_refusal (λ x. refl) (setting_cases s) (Ok tt) (check_of s) refl refl
 
-  pub refused_first : (x : Refusal) → check_of s ≡ Refused x → first (setting_cases s) ≡ some x.number
+  pub refused_first : (x : Refusal) → check_of s ≡ Err x → first (setting_cases s) ≡ some x.number
   unfolding check_refusal
   refused_first x e = sym check_first ∙ ap check_refusal e
 
-  fine_first : check_of s ≡ Fine → first (setting_cases s) ≡ none
+  fine_first : check_of s ≡ Ok tt → first (setting_cases s) ≡ none
   unfolding check_refusal
   fine_first e = sym check_first ∙ ap check_refusal e
 
   -- a list of cases that begins with the setting's: they decide it where they refuse, and are passed over where they do not
   module _ (more : List Case) {A : Type 0} (refuse : Refusal → A) (a : A) where
-    pub refused_by : (x : Refusal) → check_of s ≡ Refused x → refused_or refuse (first (setting_cases s ++ more)) a ≡ refuse x
+    pub refused_by : (x : Refusal) → check_of s ≡ Err x → refused_or refuse (first (setting_cases s ++ more)) a ≡ refuse x
     unfolding refused_or or_else
     refused_by x e = rw (first_append (setting_cases s) more, refused_first x e)
 
-    pub passed_by : check_of s ≡ Fine → refused_or refuse (first (setting_cases s ++ more)) a ≡ refused_or refuse (first more) a
+    pub passed_by : check_of s ≡ Ok tt → refused_or refuse (first (setting_cases s ++ more)) a ≡ refused_or refuse (first more) a
     unfolding or_else
     passed_by e = rw (first_append (setting_cases s) more, fine_first e)

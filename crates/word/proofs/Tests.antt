@@ -1,9 +1,12 @@
 -- A test, and the condition that it tests. Assumes nothing.
 use Prim.Native.Nat.{ℕ, ◌≤◌, ◌<◌}
-use mathlib.Core.Path.{◌≡◌, refl}
+use mathlib.Core.Path.{◌≡◌, refl, sym}
 use mathlib.Core.Bool.{Bool, true, false, not, ◌&&◌, ◌||◌, and-true, and-eq-true_iff, false≢true}
 use mathlib.Core.Logic.{◌⊎◌, inl, inr, ⊎_elim, ◌↔◌}
 use lib.Dec.{eqb, leb, ltb}
+use Rattle.std.specs.Ordering.{is_lt, nat_cmp}
+use Rattle.std.proofs.lemmas.Map.Keys.{ge_from_not_lt}
+use borrow.Author.Rules.{rules}
 use borrow.Author.Tests.{lt-ltb, le-leb, eq-eqb, ltb-true, leb-true, eqb-true}
 
 -- both tests of a conjunction
@@ -36,3 +39,10 @@ equal_plain a b = (eqb-true a b, eq-eqb a b)
 
 pub most_plain : (a b : ℕ) → leb a b ≡ true ↔ (a ≤ b)
 most_plain a b = (leb-true a b, le-leb a b)
+
+-- what a comparison of two levels has told
+pub below : {a b : ℕ} → true ≡ is_lt (nat_cmp a b) → a < b
+below {a} {b} e = search rules
+
+pub not_below : {a b : ℕ} → false ≡ is_lt (nat_cmp a b) → b ≤ a
+not_below {a} {b} e = ge_from_not_lt a b (sym e)

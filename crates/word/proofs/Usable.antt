@@ -5,14 +5,23 @@ use mathlib.Core.Bool.{Bool, true, false, not, ◌&&◌, ◌||◌, and-false, fa
 use mathlib.Core.List.{List, [], ◌∷◌}
 use mathlib.Core.Option.{Option, none, some}
 use native.Mathlib.Omega.{arith}
-use lib.Dec.{leb, ltb}
+use lib.Dec.{eqb, leb, ltb}
 use borrow.Author.Tests.{ltb-true, ltb-false, le-ltb, le-leb, lt-leb}
+use Rattle.std.specs.Bool.{then_some}
+use Rattle.std.specs.Option.{option_or}
+use Rattle.std.specs.Prelude.{MatchOption}
+use Rattle.std.specs.declared.option.Option as rust
+use Rattle.std.specs.declared.option.Option.TheVariants.{None, Some}
 use Rattle.word.specs.First.{choose, Case, first, ◌when◌}
 use Rattle.word.specs.Lowest.{found?}
 use Rattle.word.specs.Why.{NO_SUCH_FORM, NOT_AT_LEVEL, NOT_IN_MODE, SLI_OFF, why_number, why_of}
-use Rattle.word.specs.Form.{Where, either, only, nowhere, nowhere?, in_mode, Form, why_not, usable}
+use Rattle.word.specs.Form.{Where, either, only, nowhere, nowhere?, in_mode, Form, why_not, usable, increasing, non_increasing, sli_conditional, returning, long, old_jump, jump, call, everything_else, forms}
+use Rattle.word.specs.Reading.{number, form}
 use Rattle.word.specs.declared.setting.Setting.{Setting}
+use Rattle.word.specs.declared.why.Why.{Why}
 use Rattle.word.specs.declared.why.Why.TheVariants as why
+use Rattle.word.specs.declared.reading.Reading.{Reading}
+use Rattle.word.specs.declared.reading.Reading.TheVariants.{Increasing, NonIncreasing, Sli, Return, Long, OldJump, Jump, Call, Reserved, Refused}
 
 -- four tests in a row,
 abbrev four : Bool → Bool → Bool → Bool → List Case
@@ -78,16 +87,49 @@ why_number_lem s f = go (nowhere? f.mode) (ltb s.level.number f.level) (not (in_
 pub not_below_0 : (l : ℕ) → ltb l 0 ≡ false
 not_below_0 l = le-ltb l 0 (omega arith)
 
--- the why of a form that may not be used, where one test can say so, or the level's and one behind it
-pub one_left : (t : Bool) (n : ℕ) → not (found? (choose t (some n) none)) ≡ false → why_of (some n) ≡ why_of (choose t (some n) none)
-unfolding found? choose
-one_left true n e = refl
-one_left false n e = absurd (false≢true (sym e))
+-- what is said of a command, by the tests that its form can fail: its level's, and one behind it
+unfoldable pub said : Setting → Reading → rust.Option Why
+said s (Increasing c b m) = None
+said s (NonIncreasing c b m) = then_some (ltb s.level.number 1) why.Level
+said s (Sli k) = option_or (then_some (ltb s.level.number 3) why.Level) (then_some (not s.sli) why.Sli)
+said s Return = option_or (then_some (ltb s.level.number 2) why.Level) (then_some (not (eqb s.mode.number 0)) why.Mode)
+said s (Long b m c) = then_some (not (eqb s.mode.number 1)) why.Mode
+said s (OldJump t) = then_some (not (eqb s.mode.number 0)) why.Mode
+said s (Jump t) = option_or (then_some (ltb s.level.number 2) why.Level) (then_some (not (eqb s.mode.number 0)) why.Mode)
+said s (Call t) = option_or (then_some (ltb s.level.number 2) why.Level) (then_some (not (eqb s.mode.number 0)) why.Mode)
+said s (Reserved y) = Some why.Form
+said s (Refused n) = Some why.Form
 
-pub level_left :
-    (t u : Bool) (n : ℕ)
-    → not (found? (choose t (some NOT_AT_LEVEL) (choose u (some n) none))) ≡ false
-    → choose t why.Level (why_of (some n)) ≡ why_of (choose t (some NOT_AT_LEVEL) (choose u (some n) none))
-unfolding found? choose why_of
-level_left true u n e = refl
-level_left false u n e = one_left u n e
+-- a form's first why, or that it has none
+abbrev Tells : rust.Option Why → Option ℕ → Type 0
+Tells r o = MatchOption r (not (found? o) ≡ true) (λ y. (not (found? o) ≡ false) × (y ≡ why_of o))
+
+one_test : (t : Bool) (n : ℕ) → Tells (then_some t (why_of (some n))) (choose t (some n) none)
+unfolding choose found? why_of
+one_test true n = (refl, refl)
+one_test false n = refl
+
+two_tests : (t u : Bool) (n : ℕ) → Tells (option_or (then_some t why.Level) (then_some u (why_of (some n)))) (choose t (some NOT_AT_LEVEL) (choose u (some n) none))
+unfolding choose found? why_of
+two_tests true u n = (refl, refl)
+two_tests false u n = one_test u n
+
+said_right : (s : Setting) (r : Reading) → MatchOption (said s r) (usable s (form r) ≡ true) (λ y. (usable s (form r) ≡ false) × (y ≡ why_of (why_not s (form r))))
+unfolding said usable why_not first choose found? why_of nowhere? in_mode form number forms increasing non_increasing sli_conditional returning long old_jump jump call everything_else
+said_right s (Increasing c b m) = rw (not_below_0 s.level.number) refl
+said_right s (NonIncreasing c b m) = one_test (ltb s.level.number 1) 2
+said_right s (Sli k) = two_tests (ltb s.level.number 3) (not s.sli) 4
+said_right s Return = two_tests (ltb s.level.number 2) (not (eqb s.mode.number 0)) 3
+said_right s (Long b m c) = rw (not_below_0 s.level.number) (one_test (not (eqb s.mode.number 1)) 3)
+said_right s (OldJump t) = rw (not_below_0 s.level.number) (one_test (not (eqb s.mode.number 0)) 3)
+said_right s (Jump t) = two_tests (ltb s.level.number 2) (not (eqb s.mode.number 0)) 3
+said_right s (Call t) = two_tests (ltb s.level.number 2) (not (eqb s.mode.number 0)) 3
+said_right s (Reserved y) = (refl, refl)
+said_right s (Refused n) = (refl, refl)
+
+-- so for the command that a match has found
+pub told : (s : Setting) {r d : Reading} {x : rust.Option Why}
+    → r ≡ d
+    → x ≡ said s d
+    → MatchOption x (usable s (form r) ≡ true) (λ y. (usable s (form r) ≡ false) × (y ≡ why_of (why_not s (form r))))
+told s {r} {d} {x} e h = rw (h, e) (said_right s d)

@@ -1,6 +1,7 @@
 -- The promises about words, each a statement that is proved under its own name in proofs/. They speak of the public
 -- functions through their contracts (Outcomes.antt): of every answer and every output that a contract allows.
-use Rattle.std.specs.Prelude.{ℕ, ◌+◌, ◌-◌, ◌*◌, ◌/◌, ◌%◌, ◌≤◌, ◌<◌, ◌≡◌, Bool, true, false, List, [], ◌∷◌, ◌++◌, map, ◌⊎◌, ◌↔◌, eqb, length, get_or, drop}
+use Rattle.std.specs.Prelude.{ℕ, ◌+◌, ◌-◌, ◌*◌, ◌/◌, ◌%◌, ◌≤◌, ◌<◌, ◌≡◌, Bool, true, false, List, [], ◌∷◌, ◌++◌, map, ◌⊎◌, ◌↔◌, eqb, length, get_or, drop, Result, ⊤}
+use Rattle.std.specs.Prelude as std
 use Rattle.std.proofs.Math.Option.{none, some}
 use Rattle.word.specs.First.{choose, PlainCase, ◌if◌, FirstIs}
 use Rattle.word.specs.Why.{why_number}
@@ -10,13 +11,12 @@ use Rattle.word.specs.Answers.{check_refusal, reading_refusal, place_refusal, wr
 use Rattle.word.specs.Outcomes.{Checks, Counts, Reads, ReadsAt, Writes, Presents, Masks, LentAt}
 use Rattle.word.specs.declared.setting.Level.{Level}
 use Rattle.word.specs.declared.setting.Setting.{Setting}
-use Rattle.word.specs.declared.setting.Check.{Check}
+use Rattle.word.specs.declared.setting.Refusal.{Refusal}
 use Rattle.word.specs.declared.why.Why.{Why}
 use Rattle.word.specs.declared.why.Why.TheVariants as why
 use Rattle.word.specs.declared.reading.Reading.{Reading}
 use Rattle.word.specs.declared.reading.Reading.TheVariants.{Increasing, NonIncreasing, Sli, Return, Long, OldJump, Jump, Call, Reserved, Refused as Refusing}
-use Rattle.word.specs.declared.reading.Place.{Place}
-use Rattle.word.specs.declared.writing.Written.{Written}
+use Rattle.word.specs.declared.writing.Unwritten.{Unwritten}
 
 -- The conditions of the refusals, in plain terms, each with its number (docs/CARD.md, R).
 
@@ -88,23 +88,23 @@ write_plain s r out = 10 if (Within r → ⊥) ∷ 12 if (Available s r → ⊥)
 -- none before it in the function's order does.
 pub record Refused : Type 0 where
   -- R22: a setting by itself, and a word
-  pub check : (s : Setting) (a : Check) → Checks s a → (n : ℕ) → check_refusal a ≡ some n ↔ FirstIs (setting_plain s) n
+  pub check : (s : Setting) (a : Result ⊤ Refusal) → Checks s a → (n : ℕ) → check_refusal a ≡ some n ↔ FirstIs (setting_plain s) n
   pub read : (s : Setting) (w next : ℕ) (a : Reading) → Reads s w next a → (n : ℕ) → reading_refusal a ≡ some n ↔ FirstIs (setting_plain s) n
   -- R23: a word at a place
   pub read_at :
-      (s : Setting) (ws : List ℕ) (p : ℕ) (a : Place)
+      (s : Setting) (ws : List ℕ) (p : ℕ) (a : Result (std.Option Reading) Refusal)
       → ReadsAt s ws p a
       → (n : ℕ)
       → place_refusal a ≡ some n ↔ FirstIs (setting_plain s ++ size_plain ws) n
   -- R24: the writer
   pub write :
-      (s : Setting) (r : Reading) (out : List ℕ) (a : Written) (exit : List ℕ)
+      (s : Setting) (r : Reading) (out : List ℕ) (a : Result ℕ Unwritten) (exit : List ℕ)
       → Writes s r out a exit
       → (n : ℕ)
       → written_refusal a ≡ some n ↔ FirstIs (setting_plain s ++ write_plain s r out) n
   -- R31: and then the output is as it was
   pub unwritten :
-      (s : Setting) (r : Reading) (out : List ℕ) (a : Written) (exit : List ℕ)
+      (s : Setting) (r : Reading) (out : List ℕ) (a : Result ℕ Unwritten) (exit : List ℕ)
       → Writes s r out a exit
       → (n : ℕ)
       → written_refusal a ≡ some n
@@ -112,12 +112,12 @@ pub record Refused : Type 0 where
 
 -- Each contract leaves one outcome: any two that it allows are equal.
 pub record One : Type 0 where
-  pub check : (s : Setting) (a b : Check) → Checks s a → Checks s b → a ≡ b
+  pub check : (s : Setting) (a b : Result ⊤ Refusal) → Checks s a → Checks s b → a ≡ b
   pub number : (y : Why) (a b : ℕ) → Counts y a → Counts y b → a ≡ b
   pub read : (s : Setting) (w next : ℕ) (a b : Reading) → Reads s w next a → Reads s w next b → a ≡ b
-  pub read_at : (s : Setting) (ws : List ℕ) (p : ℕ) (a b : Place) → ReadsAt s ws p a → ReadsAt s ws p b → a ≡ b
+  pub read_at : (s : Setting) (ws : List ℕ) (p : ℕ) (a b : Result (std.Option Reading) Refusal) → ReadsAt s ws p a → ReadsAt s ws p b → a ≡ b
   pub write :
-      (s : Setting) (r : Reading) (out : List ℕ) (a b : Written) (x y : List ℕ)
+      (s : Setting) (r : Reading) (out : List ℕ) (a b : Result ℕ Unwritten) (x y : List ℕ)
       → Writes s r out a x
       → Writes s r out b y
       → (a ≡ b) × (x ≡ y)
@@ -126,7 +126,7 @@ pub record One : Type 0 where
   pub word_at : (bytes : List ℕ) (p a b : ℕ) → LentAt bytes p a → LentAt bytes p b → a ≡ b
 
 -- Promise 2, first half. X1, X2, X3: what the writer writes reads back as the same command, and it writes nothing else.
-pub record Echo (s : Setting) (r : Reading) (out : List ℕ) (a : Written) (exit : List ℕ) : Type 0 where
+pub record Echo (s : Setting) (r : Reading) (out : List ℕ) (a : Result ℕ Unwritten) (exit : List ℕ) : Type 0 where
   pub count : written_values a ≡ size r ∷ []
   -- the first word, read at the same setting with the second after it, or with any word where the command has one
   pub same : (next : ℕ) → (size r ≡ 2 → next ≡ get_or exit 1 0) → (x : Reading) → Reads s (get_or exit 0 0) next x → x ≡ r
@@ -136,7 +136,7 @@ pub record Echo (s : Setting) (r : Reading) (out : List ℕ) (a : Written) (exit
 -- X3: so it does, where it refuses nothing
 abbrev pub ReadBack : Type 0
 ReadBack =
-    (s : Setting) (r : Reading) (out : List ℕ) (a : Written) (exit : List ℕ)
+    (s : Setting) (r : Reading) (out : List ℕ) (a : Result ℕ Unwritten) (exit : List ℕ)
     → Writes s r out a exit
     → written_refusal a ≡ none
     → Echo s r out a exit
@@ -154,7 +154,7 @@ WriteBack =
     → w < 0x100000000
     → Reads s w next r
     → number r ≤ 8
-    → (out : List ℕ) (a : Written) (exit : List ℕ)
+    → (out : List ℕ) (a : Result ℕ Unwritten) (exit : List ℕ)
     → size r ≤ length out
     → Writes s r out a exit
     → (written_refusal a ≡ none) × (exit ≡ same_words r w next ++ drop (size r) out)
@@ -162,7 +162,7 @@ WriteBack =
 -- X6: FORM, number 12, says why, the first that applies to the command; and no other answer says it.
 abbrev pub SaysWhy : Type 0
 SaysWhy =
-    (s : Setting) (r : Reading) (out : List ℕ) (a : Written) (exit : List ℕ)
+    (s : Setting) (r : Reading) (out : List ℕ) (a : Result ℕ Unwritten) (exit : List ℕ)
     → Writes s r out a exit
     → (n : ℕ)
     → written_why a ≡ some n ↔ ((written_refusal a ≡ some 12) × FirstIs (why_plain s (number r)) n)
@@ -186,13 +186,13 @@ pub record Parameters : Type 0 where
 -- last word nothing stands.
 pub record AtPlace : Type 0 where
   pub inside :
-      (s : Setting) (ws : List ℕ) (p : ℕ) (a : Place) (r : Reading)
+      (s : Setting) (ws : List ℕ) (p : ℕ) (a : Result (std.Option Reading) Refusal) (r : Reading)
       → ReadsAt s ws p a
       → place_refusal a ≡ none
       → p < length ws
       → Reads s (get_or ws p 0) (get_or ws (p + 1) 0) r
       → (place_values a ≡ number r ∷ values r) × (place_why a ≡ why r)
-  pub past : (s : Setting) (ws : List ℕ) (p : ℕ) (a : Place) → ReadsAt s ws p a → length ws ≤ p → place_values a ≡ []
+  pub past : (s : Setting) (ws : List ℕ) (p : ℕ) (a : Result (std.Option Reading) Refusal) → ReadsAt s ws p a → length ws ≤ p → place_values a ≡ []
 
 -- X4: every number of a reading is within its width.
 abbrev pub Widths : Type 0

@@ -1,16 +1,16 @@
 -- What a word reads as.
-use Rattle.std.specs.Prelude.{ℕ, ◌+◌, ◌-◌, List, [], ◌∷◌, ◌++◌, ltb, length, get_or}
+use Rattle.std.specs.Prelude.{ℕ, ◌+◌, ◌-◌, List, [], ◌∷◌, ◌++◌, ltb, length, get_or, Some, None, Result, Ok, Err}
+use Rattle.std.specs.Prelude as std
 use Rattle.std.proofs.Math.Option.{Option, none, some}
 use Rattle.word.specs.First.{choose, first}
 use Rattle.word.specs.Setting.{setting_cases, size_cases, refused_or}
 use Rattle.word.specs.Parts.{numbers_in}
 use Rattle.word.specs.Why.{why_number, why_of}
 use Rattle.word.specs.Form.{Form, everything_else, forms, form_of, why_not, usable}
+use Rattle.word.specs.declared.setting.Refusal.{Refusal}
 use Rattle.word.specs.declared.setting.Setting.{Setting}
 use Rattle.word.specs.declared.reading.Reading.{Reading}
 use Rattle.word.specs.declared.reading.Reading.TheVariants.{Increasing, NonIncreasing, Sli, Return, Long, OldJump, Jump, Call, Reserved, Refused}
-use Rattle.word.specs.declared.reading.Place.{Place}
-use Rattle.word.specs.declared.reading.Place.TheVariants as place
 
 -- W12, W13: a reading's number: its form's, 1 to 8 in the order of the table; then 'reserved' and the refusal of a setting
 unfoldable pub number : Reading → ℕ
@@ -81,7 +81,7 @@ unfoldable pub read_of : Setting → ℕ → ℕ → Reading
 read_of s w next = refused_or Refused (first (setting_cases s)) (reading_of s w next)
 
 -- W16, R23: the word at a place of lent words
-unfoldable pub read_at_of : Setting → List ℕ → ℕ → Place
+unfoldable pub read_at_of : Setting → List ℕ → ℕ → Result (std.Option Reading) Refusal
 read_at_of s ws p =
-    refused_or place.Refused (first (setting_cases s ++ size_cases (length ws)))
-    (choose (ltb p (length ws)) (place.Word (reading_of s (get_or ws p 0) (get_or ws (p + 1) 0))) place.Past)
+    refused_or Err (first (setting_cases s ++ size_cases (length ws)))
+    (Ok (choose (ltb p (length ws)) (Some (reading_of s (get_or ws p 0) (get_or ws (p + 1) 0))) None))

@@ -1,11 +1,9 @@
 -- The refusals by number (docs/CARD.md, R), the conditions that settings and sizes meet, and the check of a setting.
-use Rattle.std.specs.Prelude.{ℕ, Bool, ◌&&◌, ◌||◌, List, [], ◌∷◌, eqb, ltb}
+use Rattle.std.specs.Prelude.{ℕ, Bool, ◌&&◌, ◌||◌, List, [], ◌∷◌, eqb, ltb, Result, Ok, Err, ⊤}
 use Rattle.std.proofs.Math.Option.{Option, none, some}
 use Rattle.word.specs.First.{Case, ◌when◌, first}
 use Rattle.word.specs.declared.setting.Refusal.{Refusal}
 use Rattle.word.specs.declared.setting.Setting.{Setting}
-use Rattle.word.specs.declared.setting.Check.{Check}
-use Rattle.word.specs.declared.setting.Check.TheVariants.{Fine, Refused}
 
 -- the refusals' numbers; each condition stands where what it asks about is defined
 abbrev pub LEVEL : ℕ
@@ -81,5 +79,5 @@ refused_or refuse none a = a
 refused_or refuse (some n) a = refuse (record { number = n })
 
 -- R22: a setting by itself
-unfoldable pub check_of : Setting → Check
-check_of s = refused_or Refused (first (setting_cases s)) Fine
+unfoldable pub check_of : Setting → Result ⊤ Refusal
+check_of s = refused_or Err (first (setting_cases s)) (Ok tt)

@@ -1,5 +1,5 @@
 -- What the writer answers, and what it leaves in the lent output.
-use Rattle.std.specs.Prelude.{ℕ, not, List, [], ◌∷◌, ◌++◌, eqb, ltb, length, drop}
+use Rattle.std.specs.Prelude.{ℕ, not, List, [], ◌∷◌, ◌++◌, eqb, ltb, length, drop, Result, Ok, Err}
 use Rattle.std.proofs.lemmas.List.Edits.{sets}
 use Rattle.word.specs.First.{choose, Case, first, ◌when◌}
 use Rattle.word.specs.Setting.{setting_cases, refused_or, FIELD, FORM, ROOM}
@@ -10,8 +10,8 @@ use Rattle.word.specs.Reading.{form, values}
 use Rattle.word.specs.declared.setting.Refusal.{Refusal}
 use Rattle.word.specs.declared.setting.Setting.{Setting}
 use Rattle.word.specs.declared.reading.Reading.{Reading}
-use Rattle.word.specs.declared.writing.Written.{Written}
-use Rattle.word.specs.declared.writing.Written.TheVariants as written
+use Rattle.word.specs.declared.writing.Unwritten.{Unwritten}
+use Rattle.word.specs.declared.writing.Unwritten.TheVariants as unwritten
 
 -- X1: the second word, where the form has one
 unfoldable pub next_word : List Part → List ℕ → List ℕ
@@ -31,15 +31,14 @@ write_cases s r space =
     ∷ []
 
 -- X6: of the refusals FORM, and no other, says why the command may not be used
-unfoldable pub refusing : Setting → Reading → Refusal → Written
-refusing s r n = choose (eqb n.number FORM) (written.Form (why_of (why_not s (form r)))) (written.Refused n)
+unfoldable pub refusing : Setting → Reading → Refusal → Result ℕ Unwritten
+refusing s r n = choose (eqb n.number FORM) (Err (unwritten.Form (why_of (why_not s (form r))))) (Err (unwritten.Refused n))
 
 -- R24: what the writer answers: a refusal, or how many words it wrote
-unfoldable pub write_of : Setting → Reading → ℕ → Written
-write_of s r space = refused_or (refusing s r) (first (setting_cases s ++ write_cases s r space)) (written.Words (length (own_words r)))
+unfoldable pub write_of : Setting → Reading → ℕ → Result ℕ Unwritten
+write_of s r space = refused_or (refusing s r) (first (setting_cases s ++ write_cases s r space)) (Ok (length (own_words r)))
 
 -- X2, R31: the output after it: the words at its front and the rest as it was, or all of it as it was
-unfoldable pub out_after : Written → Reading → List ℕ → List ℕ
-out_after (written.Refused n) r out = out
-out_after (written.Form y) r out = out
-out_after (written.Words k) r out = sets out 0 (own_words r)
+unfoldable pub out_after : Result ℕ Unwritten → Reading → List ℕ → List ℕ
+out_after (Err y) r out = out
+out_after (Ok k) r out = sets out 0 (own_words r)

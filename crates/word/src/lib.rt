@@ -10,8 +10,8 @@ mod why;
 mod writing;
 
 pub use lent::word_at;
-pub use reading::{Place, Reading, read, read_at};
-pub use setting::{Check, Level, MOST_WORDS, Mode, Refusal, Setting};
+pub use reading::{Reading, read, read_at};
+pub use setting::{Level, MOST_WORDS, Mode, Refusal, Setting};
 pub use special::{present, special_mask};
-pub use why::Why;
-pub use writing::{Written, write};
+pub use why::{UnknownWhy, Why};
+pub use writing::{Unwritten, write};

@@ -1,6 +1,6 @@
 // What a command word reads as.
-ghost use Rattle.std.specs.Prelude.{◌≡◌, false, ℕ, ◌+◌, ◌<◌, ltb, get_or};
-ghost use Rattle.word.specs.First.{choose};
+ghost use Rattle.std.specs.Prelude.{◌≡◌, true, false, not, ℕ, eqb, ltb, MatchOption};
+ghost use Rattle.std.specs.Bool.{then_some};
 ghost use Rattle.word.specs.Parts.{bits};
 ghost use Rattle.word.specs.Why.{why_of};
 ghost use Rattle.word.specs.Form.{form_of, why_not, usable};
@@ -8,12 +8,12 @@ ghost use Rattle.word.specs.Reading.{form, command_in, reading_of};
 ghost use Rattle.word.specs.Outcomes.{Reads, ReadsAt};
 ghost use Rattle.word.specs.declared.why.Why.TheVariants as why;
 
-use crate::setting::{Check, Level, MOST_WORDS, Mode, Refusal, Setting};
+use crate::setting::{Level, MOST_WORDS, Mode, Refusal, Setting};
 use crate::why::Why;
 
 // A command, with its numbers in the order in which its words hold them. Methods and targets are
 // byte numbers, multiples of 4.
-#[derive(Clone, Copy)]
+#[derive(Clone, Copy, PartialEq, Eq)]
 pub enum Reading {
     Increasing {
         count: u32,
@@ -51,64 +51,41 @@ pub enum Reading {
     },
 }
 
-// What stands at a place of lent words.
-#[derive(Clone, Copy)]
-pub enum Place {
-    Word { reading: Reading },
-    Past,
-    Refused { refusal: Refusal },
-}
-
 // What a word reads as; `next` is the word after it, where a long form has its count.
 pub fn read(setting: Setting, word: u32, next: u32) -> Reading
     ensures { Reads setting word next result }
 {
-    let check = setting.check();
-    if let Check::Refused { refusal } = check {
-        return Reading::Refused { refusal };
+    match setting.check() {
+        Ok(()) => read_checked(setting, word, next),
+        Err(refusal) => Reading::Refused { refusal },
     }
-    read_checked(setting, word, next)
 }
 
-// The same at a place of lent words. A long form at the last of them has 0 for its next word.
-pub fn read_at(setting: Setting, words: &[u32], place: usize) -> Place
+// The same at a place of lent words; nothing past the last. A long form at the last of them has 0 for its
+// next word.
+pub fn read_at(setting: Setting, words: &[u32], place: usize) -> Result<Option<Reading>, Refusal>
     ensures { ReadsAt setting words.now place result }
 {
-    let check = setting.check();
-    if let Check::Refused { refusal } = check {
-        return Place::Refused { refusal };
-    }
+    setting.check()?;
     if MOST_WORDS < words.len() {
-        return Place::Refused {
-            refusal: Refusal::SIZE,
-        };
+        return Err(Refusal::SIZE);
     }
     if words.len() <= place {
-        return Place::Past;
+        return Ok(None);
     }
-    let next = word_or_zero(words, place + 1);
-    Place::Word {
-        reading: read_checked(setting, words[place], next),
-    }
-}
-
-fn word_or_zero(words: &[u32], place: usize) -> u32
-    ensures { result ≡ get_or words.now place 0 }
-{
-    if place < words.len() { words[place] } else { 0 }
+    let next = words.get(place + 1).copied().unwrap_or(0);
+    Ok(Some(read_checked(setting, words[place], next)))
 }
 
 // What a word reads as at a setting that has been checked.
+#[tactic(auto, using(crate::proofs::First::choose_false, crate::proofs::First::choose_true, crate::proofs::RoundTrip::form_of_command), unfolding(crate::specs::Reading::reading_of))]
 fn read_checked(setting: Setting, word: u32, next: u32) -> Reading
     ensures { result ≡ reading_of setting word next }
 {
     let command = command(word, next);
-    if available(setting, command) {
-        command
-    } else {
-        Reading::Reserved {
-            why: why_not(setting, command),
-        }
+    match why_not(setting, command) {
+        None => command,
+        Some(why) => Reading::Reserved { why },
     }
 }
 
@@ -180,6 +157,7 @@ fn run(word: u32) -> Reading
 }
 
 // A word with other bits 17-16 that is no old jump: the forms that are told by their upper half.
+#[tactic(auto, using(crate::proofs::Decode::field, crate::proofs::Decode::field_0, crate::proofs::Decode::long_is, crate::proofs::Decode::odd_sli_is, crate::proofs::Decode::rest_is, crate::proofs::Decode::return_is, crate::proofs::Decode::sli_is, crate::proofs::Decode::upper_half, crate::proofs::Decode::whole_word))]
 fn by_upper_half(word: u32, next: u32) -> Reading
     requires { (bits 1 0 word ≡ 0) × (bits 17 16 word ≡ 0 → ⊥) × (bits 31 29 word ≡ 1 → ⊥) }
     ensures { result ≡ command_in (form_of word) word next }
@@ -206,54 +184,43 @@ fn by_upper_half(word: u32, next: u32) -> Reading
     Reading::Reserved { why: Why::Form }
 }
 
-// Whether a command may be used at a setting.
-pub(crate) fn available(setting: Setting, command: Reading) -> bool
-    ensures { result ≡ usable setting (form command) }
+// Why a command may not be used at a setting, if it may not: the first of the whys that applies. An
+// increasing run may be used at every setting.
+#[tactic(auto, using(crate::proofs::Usable::told), unfolding(crate::proofs::Usable::said))]
+pub(crate) fn why_not(setting: Setting, command: Reading) -> Option<Why>
+    ensures { MatchOption result (usable setting (form command) ≡ true) (λ why. (usable setting (form command) ≡ false) × (why ≡ why_of (why_not setting (form command)))) }
 {
-    let level = setting.level.number;
-    let mode = setting.mode.number;
-    let nv04_style = mode == Mode::NV04_STYLE.number;
     match command {
-        Reading::Increasing { .. } => true,
-        Reading::NonIncreasing { .. } => Level::NV10.number <= level,
-        Reading::Sli { .. } => setting.sli && Level::NV40.number <= level,
-        Reading::Return => nv04_style && Level::NV11.number <= level,
-        Reading::Long { .. } => mode == Mode::IB.number,
-        Reading::OldJump { .. } => nv04_style,
-        Reading::Jump { .. } => nv04_style && Level::NV11.number <= level,
-        Reading::Call { .. } => nv04_style && Level::NV11.number <= level,
-        Reading::Reserved { .. } => false,
-        Reading::Refused { .. } => false,
+        Reading::Increasing { .. } => None,
+        Reading::NonIncreasing { .. } => below(setting, Level::NV10),
+        Reading::Sli { .. } => below(setting, Level::NV40).or(sli_off(setting)),
+        Reading::Return => below(setting, Level::NV11).or(not_in(setting, Mode::NV04_STYLE)),
+        Reading::Long { .. } => not_in(setting, Mode::IB),
+        Reading::OldJump { .. } => not_in(setting, Mode::NV04_STYLE),
+        Reading::Jump { .. } => below(setting, Level::NV11).or(not_in(setting, Mode::NV04_STYLE)),
+        Reading::Call { .. } => below(setting, Level::NV11).or(not_in(setting, Mode::NV04_STYLE)),
+        Reading::Reserved { .. } => Some(Why::Form),
+        Reading::Refused { .. } => Some(Why::Form),
     }
 }
 
-// Why a command may not be used at a setting where it may not: the first of the whys that applies. An
-// increasing run may be used at every setting, and is never asked about.
-pub(crate) fn why_not(setting: Setting, command: Reading) -> Why
-    requires { usable setting (form command) ≡ false }
-    ensures { result ≡ why_of (why_not setting (form command)) }
+// LEVEL, of a form that is used from `first` up.
+fn below(setting: Setting, first: Level) -> Option<Why>
+    ensures { result ≡ then_some (ltb setting.level.number first.number) why.Level }
 {
-    let level = setting.level;
-    match command {
-        Reading::Increasing { .. } => Why::Form,
-        Reading::NonIncreasing { .. } => Why::Level,
-        Reading::Sli { .. } => level_or(level, Level::NV40, Why::Sli),
-        Reading::Return => level_or(level, Level::NV11, Why::Mode),
-        Reading::Long { .. } => Why::Mode,
-        Reading::OldJump { .. } => Why::Mode,
-        Reading::Jump { .. } => level_or(level, Level::NV11, Why::Mode),
-        Reading::Call { .. } => level_or(level, Level::NV11, Why::Mode),
-        Reading::Reserved { .. } => Why::Form,
-        Reading::Refused { .. } => Why::Form,
-    }
+    (setting.level < first).then_some(Why::Level)
 }
 
-// LEVEL, of a form that is used from `first` up, or else another why, which comes behind it.
-fn level_or(level: Level, first: Level, other: Why) -> Why
-    ensures { result ≡ choose (ltb level.number first.number) why.Level other }
+// MODE, of a form of one mode.
+fn not_in(setting: Setting, mode: Mode) -> Option<Why>
+    ensures { result ≡ then_some (not (eqb setting.mode.number mode.number)) why.Mode }
 {
-    if level.number < first.number {
-        return Why::Level;
-    }
-    other
+    (setting.mode != mode).then_some(Why::Mode)
+}
+
+// SLI, of a form that needs it on.
+fn sli_off(setting: Setting) -> Option<Why>
+    ensures { result ≡ then_some (not setting.sli) why.Sli }
+{
+    (!setting.sli).then_some(Why::Sli)
 }

@@ -4,7 +4,7 @@ ghost use Rattle.word.specs.Setting.{mode_refused, sli_refused};
 ghost use Rattle.word.specs.Outcomes.{Checks};
 
 // A card, by the first of its level. Any number can be handed in; LEVEL refuses those above NV84's.
-#[derive(Clone, Copy)]
+#[derive(Clone, Copy, PartialEq, Eq, PartialOrd, Ord)]
 pub struct Level {
     pub number: u32,
 }
@@ -24,7 +24,7 @@ impl Level {
 }
 
 // How commands reach the card. Any number can be handed in; MODE refuses those above IB's.
-#[derive(Clone, Copy)]
+#[derive(Clone, Copy, PartialEq, Eq, PartialOrd, Ord)]
 pub struct Mode {
     pub number: u32,
 }
@@ -36,7 +36,7 @@ impl Mode {
 }
 
 // Why an input is refused: by its number (docs/CARD.md, R).
-#[derive(Clone, Copy)]
+#[derive(Clone, Copy, PartialEq, Eq)]
 pub struct Refusal {
     pub number: u8,
 }
@@ -73,41 +73,29 @@ impl Refusal {
 pub const MOST_WORDS: usize = 1_048_576;
 
 // What a word is read or written at.
-#[derive(Clone, Copy)]
+#[derive(Clone, Copy, PartialEq, Eq)]
 pub struct Setting {
     pub level: Level,
     pub mode: Mode,
     pub sli: bool,
 }
 
-#[derive(Clone, Copy)]
-pub enum Check {
-    Fine,
-    Refused { refusal: Refusal },
-}
-
 impl Setting {
     // Whether there is such a setting, or which refusal it meets first: LEVEL, MODE or SLI.
     #[tactic(auto, unfolding(crate::specs::Setting::check_of, crate::specs::First::first, crate::specs::First::choose, crate::specs::Setting::refused_or))]
-    pub fn check(self) -> Check
+    pub fn check(self) -> Result<(), Refusal>
         ensures { Checks self result }
     {
-        if Level::NV84.number < self.level.number {
-            return Check::Refused {
-                refusal: Refusal::LEVEL,
-            };
+        if Level::NV84 < self.level {
+            return Err(Refusal::LEVEL);
         }
         if no_mode(self.level, self.mode) {
-            return Check::Refused {
-                refusal: Refusal::MODE,
-            };
+            return Err(Refusal::MODE);
         }
         if no_sli(self.level, self.sli) {
-            return Check::Refused {
-                refusal: Refusal::SLI,
-            };
+            return Err(Refusal::SLI);
         }
-        Check::Fine
+        Ok(())
     }
 }
 
@@ -115,21 +103,15 @@ impl Setting {
 fn no_mode(level: Level, mode: Mode) -> bool
     ensures { result ≡ mode_refused level.number mode.number }
 {
-    if Mode::IB.number < mode.number {
+    if Mode::IB < mode {
         return true;
     }
-    if mode.number == Mode::IB.number {
-        return level.number < Level::NV50.number;
-    }
-    false
+    mode == Mode::IB && level < Level::NV50
 }
 
 // Whether SLI is enabled on a level that has none.
 fn no_sli(level: Level, sli: bool) -> bool
     ensures { result ≡ sli_refused level.number sli }
 {
-    if sli {
-        return level.number < Level::NV40.number;
-    }
-    false
+    sli && level < Level::NV40
 }

@@ -34,6 +34,7 @@ pub fn special_mask(level: Level) -> u64
 
 // Whether a level has a method, given by its number: its byte number divided by 4. From 0x100 up,
 // number 0x40, none is special.
+#[tactic(auto, using(crate::proofs::Methods::ordinary))]
 pub fn present(level: Level, number: u32) -> bool
     ensures { Presents level number result }
 {

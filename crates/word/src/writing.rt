@@ -3,38 +3,40 @@ ghost use Rattle.std.specs.Prelude.{◌≡◌, true, ◌&&◌, ◌++◌, ◌+◌
 ghost use Rattle.word.specs.Reading.{form, values};
 ghost use Rattle.word.specs.Parts.{numbers_fit, word_with};
 ghost use Rattle.word.specs.Outcomes.{Writes};
+ghost use Rattle.word.specs.declared.writing.Unwritten.TheVariants as unwritten;
 
-use crate::reading::{Reading, available, why_not};
-use crate::setting::{Check, Refusal, Setting};
+use crate::reading::{Reading, why_not};
+use crate::setting::{Refusal, Setting};
 use crate::why::Why;
 
-// What the writer answers: how many words it wrote, or why it wrote none. The refusal FORM has a case of
-// its own, which says why the command may not be used.
-#[derive(Clone, Copy)]
-pub enum Written {
-    Words { count: usize },
+// Why the writer wrote nothing. The refusal FORM has a case of its own, which says why the command may
+// not be used.
+#[derive(Clone, Copy, PartialEq, Eq)]
+pub enum Unwritten {
     Refused { refusal: Refusal },
     Form { why: Why },
 }
 
+impl From<Refusal> for Unwritten {
+    ghost from_gives = { λ refusal error. error ≡ unwritten.Refused refusal };
+
+    fn from(refusal: Refusal) -> Unwritten {
+        Unwritten::Refused { refusal }
+    }
+}
+
 // Writes the words that are a command's own, of a long form two, at the front of the output, or
-// refuses and writes nothing.
-pub fn write(setting: Setting, command: Reading, out: &mut [u32]) -> Written
+// refuses and writes nothing. Answers how many it wrote.
+#[tactic(auto, using(crate::proofs::Writer::Past, crate::proofs::Writer::by_field, crate::proofs::Writer::by_form, crate::proofs::Writer::by_room, crate::proofs::Writer::by_setting, crate::proofs::Writer::by_words, crate::proofs::Writer::one_word, crate::proofs::Writer::two_words))]
+pub fn write(setting: Setting, command: Reading, out: &mut [u32]) -> Result<usize, Unwritten>
     ensures { Writes setting command out.old result out.new }
 {
-    let check = setting.check();
-    if let Check::Refused { refusal } = check {
-        return Written::Refused { refusal };
-    }
+    setting.check()?;
     if !fields_fit(command) {
-        return Written::Refused {
-            refusal: Refusal::FIELD,
-        };
+        return Err(Unwritten::from(Refusal::FIELD));
     }
-    if !available(setting, command) {
-        return Written::Form {
-            why: why_not(setting, command),
-        };
+    if let Some(why) = why_not(setting, command) {
+        return Err(Unwritten::Form { why });
     }
     let Reading::Long {
         subchannel: _,
@@ -43,24 +45,21 @@ pub fn write(setting: Setting, command: Reading, out: &mut [u32]) -> Written
     } = command
     else {
         if out.len() < 1 {
-            return Written::Refused {
-                refusal: Refusal::ROOM,
-            };
+            return Err(Unwritten::from(Refusal::ROOM));
         }
         out[0] = first_word(command);
-        return Written::Words { count: 1 };
+        return Ok(1);
     };
     if out.len() < 2 {
-        return Written::Refused {
-            refusal: Refusal::ROOM,
-        };
+        return Err(Unwritten::from(Refusal::ROOM));
     }
     out[0] = first_word(command);
     out[1] = count;
-    Written::Words { count: 2 }
+    Ok(2)
 }
 
 // Whether each number of a command fits its field. Neither 'reserved' nor a refusal has a field.
+#[tactic(auto, using(crate::proofs::Fits::fits_is), unfolding(crate::proofs::Fits::fits))]
 fn fields_fit(command: Reading) -> bool
     ensures { result ≡ numbers_fit ((form command).word ++ (form command).next) (values command) }
 {
@@ -94,16 +93,11 @@ fn fields_fit(command: Reading) -> bool
 fn place_fits(subchannel: u32, method: u32) -> bool
     ensures { result ≡ ltb subchannel 8 && (ltb method 8192 && eqb (method % 4) 0) }
 {
-    if 8 <= subchannel {
-        return false;
-    }
-    if 0x2000 <= method {
-        return false;
-    }
-    method % 4 == 0
+    subchannel < 8 && method < 0x2000 && method % 4 == 0
 }
 
 // A command's first word.
+#[tactic(auto, using(crate::proofs::Plainly::field_plain, crate::proofs::Writer::first_is), unfolding(crate::proofs::Writer::first_of))]
 fn first_word(command: Reading) -> u32
     requires { numbers_fit ((form command).word ++ (form command).next) (values command) ≡ true }
     ensures { result ≡ word_with (form command).word (values command) }

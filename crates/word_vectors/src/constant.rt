@@ -23,9 +23,9 @@ pub(crate) fn constants() {
     prove!(Refusal::ROOM.number == 11);
     prove!(Refusal::FORM.number == 12);
     prove!(Refusal::STATE.number == 13);
-    prove!(Why::FORM == 1);
-    prove!(Why::LEVEL == 2);
-    prove!(Why::MODE == 3);
-    prove!(Why::SLI == 4);
+    prove!(Why::Form as u8 == 1);
+    prove!(Why::Level as u8 == 2);
+    prove!(Why::Mode as u8 == 3);
+    prove!(Why::Sli as u8 == 4);
     prove!(MOST_WORDS == 1_048_576);
 }

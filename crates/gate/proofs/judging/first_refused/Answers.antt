@@ -1,30 +1,45 @@
-use mathlib.Core.Logic.{⊎_elim}
-use native.Mathlib.Nat.{eq-or-lt_of_le}
+use Prim.Native.Nat.{ℕ, suc, zero, ◌+◌, ◌*◌, ◌%◌, ◌<◌}
+use mathlib.Core.Path.{◌≡◌}
+use mathlib.Core.Bool.{true, false}
+use mathlib.Core.List.{[], ◌∷◌}
 use native.Mathlib.Omega.{arith}
-use Rattle.rules.specs.Judging.{place_of}
+use lib.ListN.{get_or}
+use borrow.Author.Tests.{eq-eqb, ne_eqb}
+use Rattle.rules.specs.Next.{◌in_state◌}
+use Rattle.rules.specs.Judging.{place_of, state_of}
 use Rattle.rules.proofs.Scans.{outset}
 use Rattle.rules.proofs.Verdicts.{pair_onward, pair_met, pairs_over, pairs_fine}
 use Rattle.gate.proofs.judging.first_refused.Goals as goal
 
-pub loop-number-init : goal.loop-number-init
-loop-number-init c = (omega arith, outset _ _)
+-- the pairs of a place have the numbers from its double on
+pair_of : (p i : ℕ) → i < 2 → place_of (2 * p + i) in_state state_of (2 * p + i) ≡ p in_state get_or (false ∷ true ∷ []) i false
+pair_of p zero l =
+    let place : place_of (2 * p + zero) ≡ p = omega arith in
+    rw (place, ne_eqb ((2 * p + zero) % 2) 1 (λ e. omega arith))
+pair_of p (suc zero) l =
+    let place : place_of (2 * p + suc zero) ≡ p = omega arith in
+    rw (place, eq-eqb ((2 * p + suc zero) % 2) 1 (omega arith))
+pair_of p (suc (suc i)) l = absurd (omega arith)
 
-pub loop-number-preserved-then-map-place-eq0 : goal.loop-number-preserved-then-map-place-eq0
-loop-number-preserved-then-map-place-eq0 c =
-    let to = c.next_start-number.ensures in (
-      omega arith,
-      pairs_over _ _ _ c.loop-number.invariant.1 _ (omega arith)
-          (λ p l m. ⊎_elim (λ e. rw (← e) c.if-map-place-eq0.true) (λ n. to.2 p (omega arith) m) (eq-or-lt_of_le {n = place_of c.loop-number.number} {m = p} l)),
-    )
+pub loop-place-init : goal.loop-place-init
+loop-place-init c = outset _ _
 
-pub returns-in-Against : goal.returns-in-Against
-returns-in-Against c =
-    pair_met _ _ _ c.loop-number.invariant.1 (omega arith) c.at_mark-found.ensures c.in-Against.is
+pub loop-place-preserved-then-map-place-eq0 : goal.loop-place-preserved-then-map-place-eq0
+loop-place-preserved-then-map-place-eq0 c =
+    pairs_over _ _ _ c.loop-place.invariant _ (omega arith) (λ p l m. let e : p ≡ c.loop-place.place = omega arith in rw e c.if-map-place-eq0.true)
 
-pub loop-number-preserved : goal.loop-number-preserved
-loop-number-preserved c =
-    (omega arith, pair_onward _ _ _ c.loop-number.invariant.1 (omega arith) c.at_mark-found.ensures c.in_default.is)
+pub returns-in-Some : goal.returns-in-Some
+returns-in-Some c =
+    pair_met _ _ _ c.loop-inside.invariant (omega arith) (pair_of _ _ c.loop-inside-test.true) c.at_mark.ensures c.in-Some.is
+
+pub loop-inside-preserved : goal.loop-inside-preserved
+loop-inside-preserved c =
+    let k = 2 * c.loop-place.place in
+    let i = c.loop-inside.inside-index in
+    let more : k + (i + 1) ≡ k + i + 1 = omega arith in
+    rw more
+    (pair_onward _ _ _ c.loop-inside.invariant (omega arith) (pair_of _ _ c.loop-inside-test.true) c.at_mark.ensures c.in_default.is)
 
 pub returns : goal.returns
 returns c =
-    pairs_fine _ _ _ c.loop-number.invariant.1 (λ p l m. c.end_of_marks-end.ensures.2 p (omega arith) m)
+    pairs_fine _ _ _ c.loop-place.invariant (λ p l m. c.end_of_marks-place-end.ensures.2 p (omega arith) m)

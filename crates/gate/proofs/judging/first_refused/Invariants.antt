@@ -1,12 +1,12 @@
-use Prim.Native.Nat.{◌*◌, ◌-◌, ◌≤◌}
-use Rattle.rules.specs.Reason.{submission, size}
+use Prim.Native.Nat.{◌+◌, ◌*◌}
+use Rattle.rules.specs.Reason.{submitted, size}
 use Rattle.rules.specs.Judging.{refused_pair}
 use Rattle.rules.proofs.Scans.{Passed}
 use Rattle.gate.proofs.judging.first_refused.Given as goal
 
--- no pair passed over has a reason
-abbrev pub invariant-loop-number : goal.invariant-loop-number
-invariant-loop-number l = (l.number ≤ 2 * l.end) × Passed (refused_pair (submission l.setting l.words l.permit) l.map) (2 * size (submission l.setting l.words l.permit)) l.number
+-- no pair passed over has a reason; a pair's number is twice its place, plus one inside a subroutine
+abbrev pub invariant-loop-place : goal.invariant-loop-place
+invariant-loop-place l = Passed (refused_pair (submitted l.submission) l.map) (2 * size (submitted l.submission)) (2 * l.place)
 
-abbrev pub decreases-loop-number : goal.decreases-loop-number
-decreases-loop-number l = 2 * l.end - l.number
+abbrev pub invariant-loop-inside : goal.invariant-loop-inside
+invariant-loop-inside l = Passed (refused_pair (submitted l.submission) l.map) (2 * size (submitted l.submission)) (2 * l.place + l.inside-index)

@@ -1,11 +1,10 @@
 use mathlib.Core.Path.{refl}
-use native.Mathlib.Omega.{arith}
 use Rattle.rules.specs.Map.{all_bits}
 use Rattle.rules.proofs.AllBits.{bits_more}
 use Rattle.gate.proofs.map.all_bits.Goals as goal
 
-pub loop-k-init : goal.loop-k-init
-loop-k-init c = (omega arith, unfold all_bits in refl)
+pub loop-byte-init : goal.loop-byte-init
+loop-byte-init c = unfold all_bits in refl
 
-pub loop-k-preserved : goal.loop-k-preserved
-loop-k-preserved c = (omega arith, bits_more _ _ _ c.loop-k.invariant.1)
+pub loop-byte-preserved : goal.loop-byte-preserved
+loop-byte-preserved c = bits_more _ _ _ c.loop-byte.invariant

@@ -8,6 +8,6 @@ pub returns-in_default : goal.returns-in_default
 unfolding number call?
 returns-in_default c = rw (no_call c.args.command (opened c.in_default.in_default-own.keys2))
 
-pub returns : goal.returns
+pub returns-in-Call : goal.returns-in-Call
 unfolding number call?
-returns c = rw c.in-Call.is
+returns-in-Call c = rw c.in-Call.is

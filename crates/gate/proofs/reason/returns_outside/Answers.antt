@@ -8,6 +8,6 @@ pub returns-in_default : goal.returns-in_default
 unfolding number return?
 returns-in_default c = rw (no_return c.args.command (opened c.in_default.in_default-own.keys2))
 
-pub returns : goal.returns
+pub returns-in-Return : goal.returns-in-Return
 unfolding number return?
-returns c = rw c.in-Return.is
+returns-in-Return c = rw c.in-Return.is

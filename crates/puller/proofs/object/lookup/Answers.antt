@@ -1,19 +1,16 @@
-use Rattle.std.proofs.Common.{◌≡◌, refl, arith}
-use Rattle.word.specs.Lowest.{lowest}
-use Rattle.puller.specs.Object.{entries}
-use Rattle.puller.proofs.Table.{has_more, lookup_at, lookup_none}
+use Rattle.std.proofs.Common.{◌≡◌, ◌∙◌, get_or, rules}
+use Rattle.std.specs.Prelude.{option_map}
+use borrow.Author.Tests.{tests}
+use Rattle.std.proofs.lemmas.Iterator.{first_from_find, YieldsList-from_slice}
+use Rattle.puller.specs.Object.{object_at}
+use Rattle.puller.proofs.Table.{rows, lookup_by}
 use Rattle.puller.proofs.object.lookup.Goals as goal
-
-pub loop-entry-init : goal.loop-entry-init
-loop-entry-init c = (omega arith, unfold lowest in refl)
-
-pub returns-then-table-entry : goal.returns-then-table-entry
-returns-then-table-entry c = rw c.object_at.ensures (lookup_at _ _ _ c.loop-entry.invariant.1 (omega arith) c.if-table-entry.true)
-
-pub loop-entry-preserved : goal.loop-entry-preserved
-loop-entry-preserved c = (omega arith, has_more _ _ _ c.loop-entry.invariant.1 c.if-table-entry.false)
 
 pub returns : goal.returns
 returns c =
-    let e : c.loop-entry.entry ≡ entries c.args.table.now = omega arith in
-    lookup_none _ _ (rw e at c.loop-entry.invariant.1)
+    let t = c.args.table.now in
+    let h = c.args.handle in
+    let mapped : c.map.result ≡ option_map (λ e. object_at e.now 0) c.find.result = search rules in
+    mapped
+    ∙ lookup_by t h c.find.result
+    (first_from_find _ _ c.find.result (λ e. get_or e 0 0 ≡ h) (λ e. get_or e 0 0 ≡ h → ⊥) c.find.ensures.ran (YieldsList-from_slice (rows t) cc) (λ x q k. search (rules, tests)) (λ x q k. search (rules, tests)))

@@ -1,5 +1,5 @@
 use Rattle.std.proofs.Common.{◌<◌, ◌≤◌, ◌⊎◌, refl, inl, inr, arith}
-use Rattle.puller.proofs.taking.take.Goals.{in_default-via-then-number-lt384, in_default-via-else-number-lt384+else-number-lt509, then-number-lt16, else-number-lt16+else-number-lt37+then-number-lt256}
+use Rattle.puller.proofs.taking.take.Goals.{in_default-via-then-method-lt384, in_default-via-else-method-lt384+else-method-lt509, then-method-lt16, else-method-lt16+else-method-lt37+then-method-lt256}
 use Rattle.puller.specs.Taking.{binds, refers, logs, binds_semaphore, offsets, acquires, releases, forwards, looks_and_forwards, act}
 use Rattle.puller.proofs.Deeds.{none_beyond, numbered, logs_at, no_effect_at, looks_at, forwards_at, taken_by}
 use Rattle.puller.proofs.taking.take.Goals as goal
@@ -47,19 +47,17 @@ returns-in_default c =
     taken_by forwards
     (forwards_at _ _ (omega arith)
     (elim c.in_default.branch [
-      | in_default-via-then-number-lt384 w ↦ inl (omega arith)
-      | in_default-via-else-number-lt384+else-number-lt509 w ↦ inr (omega arith)
+      | in_default-via-then-method-lt384 w ↦ inl (omega arith)
+      | in_default-via-else-method-lt384+else-method-lt509 w ↦ inr (omega arith)
     ]))
     c.forward.ensures refl
 
 pub returns-in-0-to-255 : goal.returns-in-0-to-255
 unfolding act
 returns-in-0-to-255 c =
-    -- what the numbers before 0x80 leave, and either range
-    let others = c.in_default-1.rest.0 in
     let n = c.args.method.method in
-    let below : n < 0x100 = elim c.in-0-to-255-1.branch [ then-number-lt16 w ↦ omega arith | else-number-lt16+else-number-lt37+then-number-lt256 w ↦ omega arith ] in
-    let outside : (n < 0x10) ⊎ (0x25 ≤ n) = elim c.in-0-to-255-1.branch [ then-number-lt16 w ↦ inl (omega arith) | else-number-lt16+else-number-lt37+then-number-lt256 w ↦ inr (omega arith) ] in
+    let below : n < 0x100 = elim c.in-0-to-255-1.branch [ then-method-lt16 w ↦ omega arith | else-method-lt16+else-method-lt37+then-method-lt256 w ↦ omega arith ] in
+    let outside : (n < 0x10) ⊎ (0x25 ≤ n) = elim c.in-0-to-255-1.branch [ then-method-lt16 w ↦ inl (omega arith) | else-method-lt16+else-method-lt37+then-method-lt256 w ↦ inr (omega arith) ] in
     taken_by logs
-    (no_effect_at _ _ below others.0.0.0.0.0.1 others.0.0.0.0.1 others.0.0.0.1 others.0.0.1 others.0.1 others.1 (λ h. none_beyond _ outside h.1))
+    (no_effect_at _ _ below (λ e. omega arith) (λ e. omega arith) (λ e. omega arith) (λ e. omega arith) (λ e. omega arith) (λ e. omega arith) (λ h. none_beyond _ outside h.1))
     c.done-in-0-to-255.ensures refl

@@ -7,14 +7,14 @@ use Rattle.word.specs.declared.reading.Reading.TheVariants.{Refused}
 use Rattle.word.proofs.Settings.{refused_by, passed_by}
 use Rattle.word.proofs.reading.read.Goals as goal
 
-pub returns-in-Refused : goal.returns-in-Refused
+pub returns-in-Ok : goal.returns-in-Ok
 unfolding read_of refused_or first
-returns-in-Refused c =
+returns-in-Ok c =
     let a = c.args in
-    sym (refused_by a.setting [] Refused _ _ (sym c.check-check.ensures ∙ c.in-Refused.is))
+    c.read_checked.ensures ∙ sym (passed_by a.setting [] Refused _ (sym c.check.ensures ∙ c.in-Ok.is))
 
-pub returns : goal.returns
+pub returns-in-Err : goal.returns-in-Err
 unfolding read_of refused_or first
-returns c =
+returns-in-Err c =
     let a = c.args in
-    c.read_checked.ensures ∙ sym (passed_by a.setting [] Refused _ (sym c.check-check.ensures ∙ c.in_default.is))
+    sym (refused_by a.setting [] Refused _ _ (sym c.check.ensures ∙ c.in-Err.is))

@@ -1,8 +1,0 @@
-use Rattle.rules.specs.Permit.{permits}
-use Rattle.rules.proofs.Scans.{Passed}
-use Rattle.rules.proofs.MethodLaws.{fails}
-use Rattle.gate.proofs.parameters.any_denied.Given as goal
-
--- no parameter passed over goes to a method that is not permitted
-abbrev pub invariant-loop-k : goal.invariant-loop-k
-invariant-loop-k l = Passed (fails (permits l.permit l.methods.subchannel) l.methods) l.count l.k
