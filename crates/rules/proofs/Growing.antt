@@ -1,5 +1,5 @@
 -- How the list of what is found grows: a pair at a time, at its end, each a next pair that was not found before. Assumes nothing.
-use Prim.Native.Nat.{ℕ, zero, suc, ◌+◌, ◌*◌, ◌/◌, ◌%◌, ◌≤◌, ◌<◌}
+use Prim.Native.Nat.{ℕ, zero, suc, ◌+◌, ◌*◌, ◌%◌, ◌≤◌, ◌<◌}
 use mathlib.Core.Path.{◌≡◌, refl, sym, ◌∙◌}
 use mathlib.Core.Bool.{Bool, true, false, ◌||◌, or-true, false≢true}
 use mathlib.Core.List.{List, [], ◌∷◌, ◌++◌, append_assoc, append-nil}
@@ -19,7 +19,7 @@ use Rattle.rules.specs.Path.{OneOf, Next}
 use Rattle.rules.specs.Search.{number_of, Found, ◌found_from◌, is_found, find, find_each, taking, take_nth, found_after}
 use Rattle.rules.specs.declared.pair.Pair.{Pair}
 
--- a pair's number has its place and its state; and a number is that of its place and state
+-- a pair's number has its place and its state
 pub place_of_lem : (q : ℕ) (t : Bool) → place_of (number_of (q in_state t)) ≡ q
 unfolding number_of choose
 place_of_lem q false = omega arith
@@ -30,14 +30,6 @@ unfolding number_of choose
 state_of_lem q false = ne_eqb ((2 * q + 0) % 2) 1 (λ e. omega arith)
 state_of_lem q true = eq-eqb ((2 * q + 1) % 2) 1 (omega arith)
 
-pub number_is : (k : ℕ) → number_of (place_of k in_state state_of k) ≡ k
-unfolding number_of choose
-number_is k = go (eqb (k % 2) 1) refl
-  where
-    go : (b : Bool) → eqb (k % 2) 1 ≡ b → 2 * (k / 2) + choose b 1 0 ≡ k
-    go true e = let h = eqb-true (k % 2) 1 e in omega arith
-    go false e = let h = eqb-false (k % 2) 1 e in omega arith
-
 -- what is found of two lists is found of one of them
 pub found_append : (fs gs : List Found) (k : ℕ) → is_found (fs ++ gs) k ≡ is_found fs k || is_found gs k
 unfolding is_found
@@ -47,9 +39,6 @@ found_append (f ∷ fs) gs k = go (eqb f.pair k) (found_append fs gs k)
     go : (b : Bool) → is_found (fs ++ gs) k ≡ is_found fs k || is_found gs k → b || is_found (fs ++ gs) k ≡ (b || is_found fs k) || is_found gs k
     go true e = refl
     go false e = e
-
-pub found_before : (fs gs : List Found) (k : ℕ) → is_found fs k ≡ true → is_found (fs ++ gs) k ≡ true
-found_before fs gs k e = rw (found_append fs gs k, e)
 
 -- with one more, what is found is that one or was found before
 pub found_more : (fs : List Found) (k j i : ℕ) → is_found (fs ++ (k found_from j ∷ [])) i ≡ true → (is_found fs i ≡ true) ⊎ (i ≡ k)

@@ -1,12 +1,12 @@
 -- The bits of the map's bytes and of the list's, what stands past the end of both, and a part of the map with the places of the whole that it
 -- spans. Assumes nothing.
-use Prim.Native.Nat.{ℕ, zero, suc, ◌+◌, ◌*◌, ◌/◌, ◌%◌, ◌^◌, ◌≤◌, ◌<◌}
+use Prim.Native.Nat.{ℕ, zero, suc, ◌+◌, ◌*◌, ◌/◌, ◌%◌, ◌≤◌, ◌<◌}
 use mathlib.Core.Path.{◌≡◌, refl, sym, ap, ◌∙◌}
 use mathlib.Core.Bool.{Bool, true, false, not, false≢true}
 use mathlib.Core.List.{List}
 use mathlib.Core.Logic.{⊎_elim, ◌↔◌}
 use mathlib.Core.Option.{Option, none, some}
-use native.Mathlib.Nat.{eq-or-lt_of_le, zero-mul, one-mul, zero-div, div-one}
+use native.Mathlib.Nat.{eq-or-lt_of_le, zero-mul, one-mul, div-one}
 use native.Mathlib.Omega.{arith}
 use lib.Bits.{bit_and, and_high}
 use lib.Dec.{eqb}
@@ -37,11 +37,7 @@ pub permits_plain : (list : List ℕ) (b m : ℕ) → permits list b m ≡ true 
 unfolding permits
 permits_plain list b m = equal_plain _ 1
 
--- past the end of the list no method is permitted, and past that of the map no place is marked, nor a start
-pub past_denied : (list : List ℕ) (b m : ℕ) → length list ≤ 256 * b + m / 8 → false ≡ permits list b m
-unfolding permits
-past_denied list b m l = rw (get_or-eq_default list 0 {n = 256 * b + m / 8} l, zero-div (2 ^ (m % 8)))
-
+-- past the end of the map no place is marked, nor a start
 pub past_unmarked : (map : List ℕ) (p : ℕ) (s : Bool) → length map ≤ p → false ≡ marked map p s
 unfolding marked
 past_unmarked map p false l = rw (get_or-eq_default map 0 {n = p} l)

@@ -5,18 +5,16 @@ use mathlib.Core.Bool.{Bool, true, false, not, ◌&&◌, ◌||◌}
 use mathlib.Core.List.{List, [], ◌∷◌}
 use mathlib.Core.Logic.{inl, inr}
 use mathlib.Core.Option.{none}
-use types.Run.{OneOf, miss}
+use types.Run.{OneOf}
 use denote.Enum.Declared.{tag_of}
 use lib.Dec.{eqb, leb}
 use borrow.Author.Tests.{not-true, eqb-false}
-use Rattle.word.specs.Reading.{number, why, parameter_count}
+use Rattle.word.specs.Reading.{number, why}
 use Rattle.word.specs.declared.reading.Reading.{Reading}
 use Rattle.word.specs.declared.reading.Reading.TheVariants.{Increasing, NonIncreasing, Sli, Return, Long, OldJump, Jump, Call, Reserved, Refused}
 use Rattle.word.specs.contracts.reading.Reading.{the_type}
 use Rattle.word.proofs.Told.{no_why_of}
 use Rattle.word.proofs.Tests.{both}
-use Rattle.rules.specs.Parameters.{no_methods, methods_of}
-use Rattle.rules.specs.Next.{nexts, held}
 use Rattle.rules.specs.Reason.{reserved?, call?, return?}
 
 -- a reading's number is one more than its tag
@@ -73,37 +71,3 @@ no_call r o = not-true _ (by_tag (λ n. not (eqb n 8)) (0 ∷ 1 ∷ 2 ∷ 3 ∷ 
 pub no_return : (r : Reading) → OneOf (0 ∷ 1 ∷ 2 ∷ 4 ∷ 5 ∷ 6 ∷ 7 ∷ 8 ∷ 9 ∷ []) (tag_of the_type r) → return? r ≡ false
 unfolding return? at_each
 no_return r o = not-true _ (by_tag (λ n. not (eqb n 4)) (0 ∷ 1 ∷ 2 ∷ 4 ∷ 5 ∷ 6 ∷ 7 ∷ 8 ∷ 9 ∷ []) refl r o)
-
--- no run: no parameters follow
-abbrev no_run : List ℕ
-no_run = 2 ∷ 3 ∷ 5 ∷ 6 ∷ 7 ∷ 8 ∷ 9 ∷ []
-
-pub no_parameters : (r : Reading) → OneOf no_run (tag_of the_type r) → (0 ≡ parameter_count r) × (no_methods ≡ methods_of r)
-unfolding parameter_count methods_of
-no_parameters (Increasing c s m) h = absurd (miss no_run 0 tt h)
-no_parameters (NonIncreasing c s m) h = absurd (miss no_run 1 tt h)
-no_parameters (Sli k) h = (refl, refl)
-no_parameters Return h = (refl, refl)
-no_parameters (Long s m c) h = absurd (miss no_run 4 tt h)
-no_parameters (OldJump t) h = (refl, refl)
-no_parameters (Jump t) h = (refl, refl)
-no_parameters (Call t) h = (refl, refl)
-no_parameters (Reserved y) h = (refl, refl)
-no_parameters (Refused r) h = (refl, refl)
-
--- neither a run nor SLI conditional, a jump or a call: the words go on nowhere
-abbrev stops : List ℕ
-stops = 3 ∷ 4 ∷ 8 ∷ 9 ∷ []
-
-pub goes_nowhere : (r : Reading) → OneOf stops (tag_of the_type r) → (p : ℕ) (s : Bool) → held [] ≡ held (nexts r p s)
-unfolding nexts
-goes_nowhere (Increasing c b m) h p s = absurd (miss stops 0 tt h)
-goes_nowhere (NonIncreasing c b m) h p s = absurd (miss stops 1 tt h)
-goes_nowhere (Sli k) h p s = absurd (miss stops 2 tt h)
-goes_nowhere Return h p s = refl
-goes_nowhere (Long b m c) h p s = refl
-goes_nowhere (OldJump t) h p s = absurd (miss stops 5 tt h)
-goes_nowhere (Jump t) h p s = absurd (miss stops 6 tt h)
-goes_nowhere (Call t) h p s = absurd (miss stops 7 tt h)
-goes_nowhere (Reserved y) h p s = refl
-goes_nowhere (Refused r) h p s = refl

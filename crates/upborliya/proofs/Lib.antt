@@ -1,4 +1,3 @@
-pub mod FiveParts
 pub mod GivesBack
 pub mod ReadingBack
 pub mod RepairBack

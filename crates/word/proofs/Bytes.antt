@@ -1,12 +1,10 @@
 -- Words lent as bytes: how many there are, and the word at a place, out of its four bytes. Assumes nothing.
-use Prim.Native.Nat.{ℕ, zero, suc, ◌+◌, ◌*◌, ◌/◌, ◌%◌, ◌^◌, ◌<◌}
+use Prim.Native.Nat.{ℕ, zero, suc, ◌+◌, ◌*◌, ◌/◌, ◌^◌, ◌<◌}
 use mathlib.Core.Path.{◌≡◌, refl, ap, ◌∙◌}
 use mathlib.Core.List.{List, [], ◌∷◌}
 use native.Mathlib.Omega.{arith}
-use lib.Bits.{bit_or}
 use lib.ListN.{length, get_or, get_or-eq_default}
 use Rattle.word.specs.Lent.{words_of}
-use Rattle.word.proofs.Bits.{under}
 
 -- there is a word for every four bytes:
 pub words_length : (bytes : List ℕ) → length (words_of bytes) ≡ length bytes / 4
@@ -16,10 +14,6 @@ words_length (a ∷ []) = refl
 words_length (a ∷ b ∷ []) = refl
 words_length (a ∷ b ∷ c ∷ []) = refl
 words_length (a ∷ b ∷ c ∷ d ∷ more) = ap suc (words_length more) ∙ omega arith
-
--- n of them of four times as many bytes
-pub words_many : (bytes : List ℕ) {n : ℕ} → length bytes ≡ 4 * n → length (words_of bytes) ≡ n
-words_many bytes e = words_length bytes ∙ omega arith
 
 -- the word at a place is made of the four bytes there, the lowest first
 pub word_is :
@@ -41,35 +35,6 @@ word_is (a ∷ b ∷ c ∷ d ∷ more) (suc p) h =
 -- and past the last whole word stands 0
 pub word_past : (bytes : List ℕ) (p : ℕ) → length bytes < 4 * p + 4 → get_or (words_of bytes) p 0 ≡ 0
 word_past bytes p h = get_or-eq_default (words_of bytes) 0 (omega (arith, words_length bytes))
-
--- so it is read: the bytes shifted, and put side by side
-pub word_read :
-    (bytes : List ℕ) (p : ℕ)
-    → ((i : ℕ) → get_or bytes i 0 < 2 ^ 8)
-    → 4 * p + 3 < length bytes
-    → bit_or
-    (bit_or
-    (bit_or (get_or bytes (4 * p) 0) (get_or bytes (4 * p + 1) 0 * 2 ^ 8 % 2 ^ 32))
-    (get_or bytes (4 * p + 2) 0 * 2 ^ 16 % 2 ^ 32))
-    (get_or bytes (4 * p + 3) 0 * 2 ^ 24 % 2 ^ 32)
-    ≡ get_or (words_of bytes) p 0
-word_read bytes p narrow h =
-    let at = 4 * p in
-    let a = get_or bytes at 0 in
-    let b = get_or bytes (at + 1) 0 in
-    let c = get_or bytes (at + 2) 0 in
-    let d = get_or bytes (at + 3) 0 in
-    let two = b * 2 ^ 8 + a in
-    let three = c * 2 ^ 16 + two in
-    let na = narrow at in
-    let nb = narrow (at + 1) in
-    let nc = narrow (at + 2) in
-    rw (
-      under b 8 8 32 a nb (omega arith) na,
-      under c 8 16 32 two nc (omega arith) (omega arith),
-      under d 8 24 32 three (narrow (at + 3)) (omega arith) (omega arith),
-      word_is bytes p h,
-    ) (omega arith)
 
 -- words of bytes have 32 bits
 pub words_narrow : (bs : List ℕ) → ((i : ℕ) → get_or bs i 0 < 2 ^ 8) → (i : ℕ) → get_or (words_of bs) i 0 < 2 ^ 32

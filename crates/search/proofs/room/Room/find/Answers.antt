@@ -20,6 +20,9 @@ module _ (room : Room) (q : Pair) {k : ℕ} (is : k ≡ number_of q) (most : q.p
   there : k < length room.entries.now
   there = let before = number_within q room.end (omega (arith, most, ne)) in omega (arith, is, room.sized.1)
 
+  small : k < 2 ^ 31
+  small = omega (arith, there, few room)
+
   -- and if that says that it was not found, it is added
   module _ (j : ℕ) (from : j < 2 * room.end) (unset : get_or room.entries.now k 0 % 2 ^ 32 ≡ 0) where
     from_there : j < length room.entries.now
@@ -39,6 +42,12 @@ module _ (room : Room) (q : Pair) {k : ℕ} (is : k ≡ number_of q) (most : q.p
     place_left : room.count < length room.entries.now
     place_left = ∥∥₁_elim room.filled le_prop (λ x. free x.0 room.entries.now room.count x.1 (few room) k there j from_there unset)
 
+    entry_left : room.count < length once
+    entry_left = rw (length-set room.entries.now k (get_or room.entries.now k 0 + (j + 1))) place_left
+
+    small_count : room.count < 2 ^ 31
+    small_count = omega (arith, place_left, few room)
+
     next_low : get_or (set room.entries.now k (get_or room.entries.now k 0 + (j + 1))) room.count 0 < 2 ^ 32
     next_low = ∥∥₁_elim room.filled le_prop (λ x. room_left_next x.0 room.entries.now room.count x.1 (few room) k there j from_there unset)
 
@@ -47,10 +56,7 @@ returns-then-pair-self c =
     let a = c.args in (refl, refl, λ fs h. rw (find_end a.self.now.end a.from fs a.pair c.if-pair-self.true) h)
 
 pub offset_bounds-self-number : goal.offset_bounds-self-number
-offset_bounds-self-number c =
-    let room = c.args.self.now in
-    let at = there room c.args.pair c.number_of-number.ensures c.requires.1 c.if-pair-self.false in
-    omega (arith, few room)
+offset_bounds-self-number c = omega (arith, small c.args.self.now c.args.pair c.number_of-number.ensures c.requires.1 c.if-pair-self.false)
 
 pub bounds-self-number : goal.bounds-self-number
 bounds-self-number c = there c.args.self.now c.args.pair c.number_of-number.ensures c.requires.1 c.if-pair-self.false
@@ -69,10 +75,7 @@ returns-then-self-number-ne0 c =
     )
 
 pub offset_bounds-entries-number : goal.offset_bounds-entries-number
-offset_bounds-entries-number c =
-    let room = c.args.self.now in
-    let at = there room c.args.pair c.number_of-number.ensures c.requires.1 c.if-pair-self.false in
-    omega (arith, few room)
+offset_bounds-entries-number c = omega (arith, small c.args.self.now c.args.pair c.number_of-number.ensures c.requires.1 c.if-pair-self.false)
 
 pub bounds-entries-number : goal.bounds-entries-number
 bounds-entries-number c = there c.args.self.now c.args.pair c.number_of-number.ensures c.requires.1 c.if-pair-self.false
@@ -81,23 +84,15 @@ pub bounds-entries-number-2 : goal.bounds-entries-number-2
 bounds-entries-number-2 c = there c.args.self.now c.args.pair c.number_of-number.ensures c.requires.1 c.if-pair-self.false
 
 pub overflow_mul-entries : goal.overflow_mul-entries
-overflow_mul-entries c =
-    let room = c.args.self.now in
-    let at = there room c.args.pair c.number_of-number.ensures c.requires.1 c.if-pair-self.false in
-    omega (arith, few room)
+overflow_mul-entries c = omega (arith, small c.args.self.now c.args.pair c.number_of-number.ensures c.requires.1 c.if-pair-self.false)
 
 pub offset_bounds-entries-self : goal.offset_bounds-entries-self
 offset_bounds-entries-self c =
-    let room = c.args.self.now in
-    let left = place_left room c.args.pair c.number_of-number.ensures c.requires.1 c.if-pair-self.false c.args.from c.requires.0 c.if-self-number-ne0.false in
-    omega (arith, few room)
+    omega (arith, small_count c.args.self.now c.args.pair c.number_of-number.ensures c.requires.1 c.if-pair-self.false c.args.from c.requires.0 c.if-self-number-ne0.false)
 
 pub bounds-entries-self : goal.bounds-entries-self
 bounds-entries-self c =
-    let room = c.args.self.now in
-    let k = c.number_of-number.result in
-    rw (length-set room.entries.now k (get_or room.entries.now k 0 + (c.args.from + 1)))
-    (place_left room c.args.pair c.number_of-number.ensures c.requires.1 c.if-pair-self.false c.args.from c.requires.0 c.if-self-number-ne0.false)
+    entry_left c.args.self.now c.args.pair c.number_of-number.ensures c.requires.1 c.if-pair-self.false c.args.from c.requires.0 c.if-self-number-ne0.false
 
 pub overflow_add-entries-3 : goal.overflow_add-entries-3
 overflow_add-entries-3 c =
@@ -108,16 +103,11 @@ overflow_add-entries-3 c =
 
 pub bounds-entries-self-2 : goal.bounds-entries-self-2
 bounds-entries-self-2 c =
-    let room = c.args.self.now in
-    let k = c.number_of-number.result in
-    rw (length-set room.entries.now k (get_or room.entries.now k 0 + (c.args.from + 1)))
-    (place_left room c.args.pair c.number_of-number.ensures c.requires.1 c.if-pair-self.false c.args.from c.requires.0 c.if-self-number-ne0.false)
+    entry_left c.args.self.now c.args.pair c.number_of-number.ensures c.requires.1 c.if-pair-self.false c.args.from c.requires.0 c.if-self-number-ne0.false
 
 pub overflow_add-self : goal.overflow_add-self
 overflow_add-self c =
-    let room = c.args.self.now in
-    let left = place_left room c.args.pair c.number_of-number.ensures c.requires.1 c.if-pair-self.false c.args.from c.requires.0 c.if-self-number-ne0.false in
-    omega (arith, few room)
+    omega (arith, small_count c.args.self.now c.args.pair c.number_of-number.ensures c.requires.1 c.if-pair-self.false c.args.from c.requires.0 c.if-self-number-ne0.false)
 
 pub invariant_of-self-clause-filled : goal.invariant_of-self-clause-filled
 invariant_of-self-clause-filled c =
