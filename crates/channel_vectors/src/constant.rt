@@ -16,4 +16,10 @@ pub(crate) fn constants() {
     prove!(PullerError::Semaphore2 as u32 == 4);
     prove!(PullerError::Semaphore3 as u32 == 5);
     prove!(PullerError::Semaphore4 as u32 == 6);
+    prove!(PullerError::NO_HASH == 1);
+    prove!(PullerError::EMPTY_SUBCHANNEL == 2);
+    prove!(PullerError::SEMAPHORE_1 == 3);
+    prove!(PullerError::SEMAPHORE_2 == 4);
+    prove!(PullerError::SEMAPHORE_3 == 5);
+    prove!(PullerError::SEMAPHORE_4 == 6);
 }

@@ -8,7 +8,7 @@ ghost use Rattle.rules.specs.Reason.{submitted, size};
 ghost use Rattle.rules.specs.Judging.{place_verdict, start_verdict, verdict_of, with_why};
 ghost use Rattle.rules.specs.Outcomes.{NoSuchLengths, FirstRefuses, HandsIn, Judges};
 
-use crate::map::{all_bits, is_marked};
+use crate::map::{all_bits, is_marked, next_start};
 use crate::permit::{LIST_BYTES, set_bits};
 use crate::reason::at_mark;
 use rules::{FirstRefused, Judgement, Pair, Reason, Submission, Unfit, Verdict};
@@ -163,16 +163,16 @@ fn start_verdict(map: &[u8]) -> Verdict
 pub fn first_refused(submission: &Submission, map: &[u8]) -> Option<FirstRefused>
     ensures { FirstRefuses submission.now.setting submission.now.words.now map.now submission.now.permit.now result }
 {
-    for place in 0..end_of_marks(submission, map) {
-        if map[place] == 0 {
-            continue;
-        }
+    let end = end_of_marks(submission, map);
+    let mut place = next_start(map, 0, end);
+    while place < end {
         for inside in [false, true] {
             let pair = Pair { place, inside };
             if let Some(reason) = at_mark(submission, map, pair) {
                 return Some(FirstRefused { reason, pair });
             }
         }
+        place = next_start(map, place + 1, end);
     }
     None
 }

@@ -1,5 +1,5 @@
 // The map of command starts. Past its end nothing is marked.
-ghost use Rattle.std.specs.Prelude.{◌≡◌, ◌+◌, length};
+ghost use Rattle.std.specs.Prelude.{◌≡◌, ℕ, ◌+◌, ◌≤◌, ◌<◌, length, get_or};
 ghost use Rattle.word.specs.First.{choose};
 ghost use Rattle.rules.specs.Map.{marked, any_start, all_bits};
 ghost use Rattle.rules.specs.Reason.{MapTests, by_map, no_map};
@@ -103,4 +103,17 @@ pub(crate) fn all_bits(part: &[u8]) -> u8
         bits |= byte;
     }
     bits
+}
+
+// The first start from a place on and before another, or that other where there is none.
+pub(crate) fn next_start(map: &[u8], from: usize, to: usize) -> usize
+    requires { (from ≤ to) × (to ≤ length map.now) }
+    ensures { (from ≤ result) × (result ≤ to) × ((k : ℕ) → from ≤ k → k < result → get_or map.now k 0 ≡ 0) }
+{
+    for place in from..to {
+        if map[place] != 0 {
+            return place;
+        }
+    }
+    to
 }

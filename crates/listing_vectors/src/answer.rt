@@ -1,8 +1,9 @@
 // Answers: the model's, and the library's.
 use crate::reader::through_reader;
 use listing::{End, Listed};
-use records::Words;
+use records::read_words;
 use std::fmt;
+use std::io::{self, Read};
 use word::{Reading, Setting, Why};
 
 // An item's number, a reading's with its values, a why, and the place after it. What an answer lacks is 0.
@@ -19,16 +20,18 @@ pub struct Answer {
 
 impl Answer {
     // The model's.
-    pub(crate) fn next(input: &mut Words<'_>) -> Answer {
-        Answer {
-            item: input.next_word(),
-            reading: input.next_word(),
-            a: input.next_word(),
-            b: input.next_word(),
-            c: input.next_word(),
-            why: input.next_word(),
-            place: input.next_word() as usize,
-        }
+    pub(crate) fn next(input: &mut impl Read) -> io::Result<Answer> {
+        let mut bytes = [0u8; 28];
+        let mut words = read_words(input, &mut bytes)?;
+        Ok(Answer {
+            item: words.next_word(),
+            reading: words.next_word(),
+            a: words.next_word(),
+            b: words.next_word(),
+            c: words.next_word(),
+            why: words.next_word(),
+            place: words.next_word() as usize,
+        })
     }
 }
 

@@ -9,41 +9,32 @@ mod reader;
 mod record;
 mod tally;
 
-use question::LARGE_WORDS;
+use question::{LARGE_WORDS, Unread};
 use record::next_record;
-use records::{MOST_RECORDS, Unknown, Words};
-use std::alloc::Allocator;
-use std::io::{self, Read, Stdin};
+use records::MOST_RECORDS;
+use std::io::{self, BufReader, Read};
 use tally::Tally;
 
-// No record has more than 2,363 words.
-const MOST_BYTES: usize = 9_452;
-
 fn main(rt: HostRuntime) -> io::Result<()> {
-    let mut bytes = Vec::new(rt.alloc());
+    let mut input = BufReader::new(rt.alloc(), rt.reader())?;
     let mut pool = vec![in rt.alloc(); 0u32; LARGE_WORDS]?;
-    let tally = run(&rt.stdin(), &mut bytes, &mut pool)?;
+    let tally = run(&mut input, &mut pool)?;
     print!(rt; "{tally}")
 }
 
-// Reads no further than the longest record after the last goes. The input's end reads as kind 0, which ends the run,
-// and so does a record that the format does not have.
-fn run<A: Allocator>(input: &Stdin, bytes: &mut Vec<u8, A>, pool: &mut [u32]) -> io::Result<Tally> {
+// The input's end reads as kind 0, which ends the run, and so does a record that the format does not have.
+fn run(input: &mut impl Read, pool: &mut [u32]) -> io::Result<Tally> {
     let mut tally = Tally::default();
     for place in 1..=MOST_RECORDS {
-        let lacking = MOST_BYTES.saturating_sub(bytes.len());
-        input.take(lacking as u64).read_to_end(bytes)?;
-        let mut words = Words { rest: &*bytes };
-        match next_record(&mut words, pool) {
+        match next_record(input, pool) {
             Ok(Some(record)) => tally.count(place, record),
             Ok(None) => break,
-            Err(Unknown) => {
+            Err(Unread::Unknown) => {
                 tally.count_unknown();
                 break;
             }
+            Err(Unread::Failed { error }) => return Err(error),
         }
-        let used = bytes.len().saturating_sub(words.rest.len());
-        bytes.drain(..used);
     }
     Ok(tally)
 }

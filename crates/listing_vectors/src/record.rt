@@ -1,7 +1,8 @@
 // The records, each held to the library.
 use crate::answer::{Answer, Miss, answered};
-use crate::question::{Kind, Question, load};
-use records::{Unknown, Words};
+use crate::question::{Kind, Question, Unread, load};
+use records::{Unknown, read_words};
+use std::io::{self, Read};
 use word::Setting;
 
 // A record's kind, and its first wrong answer.
@@ -13,34 +14,36 @@ pub struct Record {
 
 // The next record, whose words are lent at the front of the pool.
 pub(crate) fn next_record(
-    input: &mut Words<'_>,
+    input: &mut impl Read,
     pool: &mut [u32],
-) -> Result<Option<Record>, Unknown> {
-    let number = input.next_word();
+) -> Result<Option<Record>, Unread> {
+    let mut bytes = [0u8; 24];
+    let mut words = read_words(input, &mut bytes)?;
+    let number = words.next_word();
     if number == 0 {
         return Ok(None);
     }
     let kind = Kind::try_from(number)?;
-    let question = Question::next(input);
+    let question = Question::next(&mut words);
     let lent = pool.get_mut(..question.words).ok_or(Unknown)?;
     let answers = load(input, kind, lent)?;
-    let miss = first_miss(input, question.setting, lent, question.place, answers);
+    let miss = first_miss(input, question.setting, lent, question.place, answers)?;
     Ok(Some(Record { kind, miss }))
 }
 
 // The model's answers come next. After a wrong one the rest are read, so that the next record is found, and not
 // asked for.
 fn first_miss(
-    input: &mut Words<'_>,
+    input: &mut impl Read,
     setting: Setting,
     words: &[u32],
     place: usize,
     answers: u32,
-) -> Option<Miss> {
+) -> io::Result<Option<Miss>> {
     let mut place = place;
     let mut miss = None;
     for answer in 1..=answers {
-        let wanted = Answer::next(input);
+        let wanted = Answer::next(input)?;
         if miss.is_none() {
             let got = answered(setting, words, place, wanted);
             if got != wanted {
@@ -53,5 +56,5 @@ fn first_miss(
             place = got.place;
         }
     }
-    miss
+    Ok(miss)
 }

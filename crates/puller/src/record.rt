@@ -15,6 +15,19 @@ pub enum PullerError {
 }
 
 impl PullerError {
+    pub const NO_HASH: u32 = 1;
+
+    pub const EMPTY_SUBCHANNEL: u32 = 2;
+
+    pub const SEMAPHORE_1: u32 = 3;
+
+    pub const SEMAPHORE_2: u32 = 4;
+
+    pub const SEMAPHORE_3: u32 = 5;
+
+    pub const SEMAPHORE_4: u32 = 6;
+
+    // An error's number.
     #[tactic(auto, unfolding(crate::specs::Record::number))]
     pub fn number(self) -> u32
         ensures { Numbers (Some self) result }

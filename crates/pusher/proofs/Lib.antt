@@ -1,3 +1,4 @@
+pub mod Commands
 pub mod Entries
 pub mod Roles
 pub mod PastWord

@@ -18,7 +18,7 @@ use Rattle.event.specs.declared.Kind.{Kind}
 use Rattle.event.specs.declared.Kind.TheVariants as kind
 use Rattle.event.specs.declared.Method.{Method}
 use Rattle.event.specs.declared.Event.TheVariants.{Plain, Of}
-use Rattle.pusher.specs.Record.{number, why}
+use Rattle.pusher.specs.Record.{number, why, with_error}
 use Rattle.pusher.specs.Moving.{quietly, failed_by, commanded}
 use Rattle.pusher.specs.Answers.{did_number, did_values, Tells}
 use Rattle.pusher.specs.Promises.{Leaves, Says, Discards, HandsOver, Failed, Fails, Reserves}
@@ -46,9 +46,9 @@ pub hands_over_of : {q : Pusher} {m : Method} {r : Pushed} → r ≡ record { pu
 unfolding did_number did_values
 hands_over_of e = leaves_of _ _ e
 
--- as a move leaves p that fails: with e where its error was, and saying error
+-- as a move leaves p that fails: what an error leaves of it, with e as the error, and saying error
 abbrev pub ends_with : Pusher → std.Option PusherError → Pushed
-ends_with p e = quietly (record { get = p.get; put = p.put; run = p.run; subroutine = p.subroutine; ib = p.ib; main = p.main; sli = p.sli; error = e }) kind.Error
+ends_with p e = let q = with_error p cause.Ib in quietly (record { get = q.get; put = q.put; run = q.run; subroutine = q.subroutine; ib = q.ib; main = q.main; sli = q.sli; error = e }) kind.Error
 
 pub fails_of : {p : Pusher} (e : std.Option PusherError) {r : Pushed} → r ≡ ends_with p e → Fails p (number e) r
 fails_of {p} e h =

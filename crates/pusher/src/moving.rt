@@ -1,5 +1,6 @@
 // One move of the pusher.
-ghost use Rattle.std.specs.Prelude.{◌≡◌, ◌+◌, ◌≤◌, ◌<◌};
+ghost use Rattle.std.specs.Prelude.{◌≡◌, ◌≢◌, ◌+◌, ◌≤◌, ◌<◌};
+ghost use Rattle.word.specs.Reading.{number};
 ghost use Rattle.word.specs.Promises.{Within};
 ghost use Rattle.pusher.specs.Loan.{PusherLoan, to_pusher, with_words, with_entries};
 ghost use Rattle.pusher.specs.Moving.{word_role, entry_role, act, quietly, failed_by, advanced, counted, parameter_of, used_up, commanded, awaiting, begun, conditional, jumped, called, returned, next_index, prepared};
@@ -151,10 +152,27 @@ impl Pusher {
         self
     }
 
-    // What a command does, by its form.
-    #[tactic(auto, unfolding(crate::specs::Moving::commanded))]
+    // A command word. Of a long form the count is still to be read.
+    #[tactic(auto, using(crate::proofs::Commands::no_long), unfolding(crate::specs::Moving::commanded))]
     fn command(self, reading: Reading) -> Pushed
         requires { Within reading }
+        ensures { result ≡ commanded self reading }
+    {
+        let Reading::Long {
+            subchannel,
+            method,
+            ..
+        } = reading
+        else {
+            return self.one_word(reading);
+        };
+        self.await_count(subchannel, method)
+    }
+
+    // Every other command.
+    #[tactic(auto, unfolding(crate::specs::Moving::commanded, word::specs::Reading::number))]
+    fn one_word(self, reading: Reading) -> Pushed
+        requires { (number reading ≢ 5) × Within reading }
         ensures { result ≡ commanded self reading }
     {
         match reading {
@@ -170,15 +188,10 @@ impl Pusher {
             } => self.begin(count, subchannel, method, false),
             Reading::Sli { mask } => self.condition(mask),
             Reading::Return => self.go_back(),
-            Reading::Long {
-                subchannel,
-                method,
-                ..
-            } => self.await_count(subchannel, method),
             Reading::OldJump { target } | Reading::Jump { target } => self.jump(target),
             Reading::Call { target } => self.call(target),
             Reading::Reserved { why } => self.failed(PusherError::ReservedCmd { why }),
-            Reading::Refused { .. } => self.failed(PusherError::ReservedCmd { why: Why::Form }),
+            _ => self.failed(PusherError::ReservedCmd { why: Why::Form }),
         }
     }
 

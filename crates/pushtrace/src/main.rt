@@ -3,14 +3,13 @@
 // on standard error, and its exit status is 0 there too.
 #![tactic(auto)]
 
-use std::io::{self, Read, Write};
+mod input;
+
+use std::io::{self, Write};
 use trace::{BUDGET, Line, MOST_BYTES, MOST_TEXT, Stage, Trace};
 
 // One byte more than is taken, so that more is seen.
 const MOST_READ: usize = MOST_BYTES + 1;
-
-// One more than is read, so that reading needs no more memory.
-const ROOM: usize = MOST_READ + 1;
 
 const MOST_WORDS: usize = MOST_BYTES / 4;
 
@@ -20,13 +19,14 @@ const SEMAPHORES: usize = 1_024;
 const MOST_LINES: u32 = BUDGET + 1;
 
 fn main(rt: HostRuntime) -> io::Result<()> {
-    let mut bytes = Vec::with_capacity(rt.alloc(), ROOM)?;
+    let mut bytes = vec![in rt.alloc(); 0u8; MOST_READ]?;
     let mut words = vec![in rt.alloc(); 0u32; MOST_WORDS]?;
     let mut semaphores = vec![in rt.alloc(); 0u32; SEMAPHORES]?;
-    let mut input = rt.stdin().take(MOST_READ as u64);
-    if input.read_to_end(&mut bytes).is_err() {
+    let Ok(length) = input::read(&mut rt.stdin(), &mut bytes) else {
         complain(&rt, "pushtrace: standard input can't be read\n");
-    } else if print_trace(&rt, &bytes, &mut words, &mut semaphores).is_err() {
+        return Ok(());
+    };
+    if print_trace(&rt, &bytes[..length], &mut words, &mut semaphores).is_err() {
         complain(&rt, "pushtrace: standard output can't be written\n");
     }
     Ok(())

@@ -2,10 +2,12 @@
 // its lowest byte first.
 #![tactic(auto)]
 
-ghost use Rattle.std.specs.Prelude.{◌≡◌, drop};
+ghost use Rattle.std.specs.Prelude.{◌≡◌, drop, length};
 ghost use Rattle.std.specs.Iterator.{YieldsFirst, item_count};
 ghost use Rattle.word.specs.Lent.{words_of};
-ghost use Rattle.records.specs.Outcomes.{TakesWord, TakesByte, TakesPair, TakesUpTo, TakesBytes};
+ghost use Rattle.records.specs.Outcomes.{TakesWord, TakesByte, TakesPair, TakesUpTo, TakesBytes, ReadsWords};
+
+use std::io::{self, Read};
 
 // More records than a file has: a program's run ends with its input.
 pub const MOST_RECORDS: u32 = 1_000_000;
@@ -78,4 +80,21 @@ impl<'a> Words<'a> {
         self.rest = rest;
         bytes
     }
+}
+
+// Reads until the buffer is full or the input ends, and no further: the words of what was read.
+pub fn read_words<'b, R: Read>(input: &mut R, buffer: &'b mut [u8]) -> io::Result<Words<'b>>
+    ensures { ReadsWords (length buffer.old) (R.remaining input.old) (R.remaining input.new) result }
+{
+    let mut done = 0;
+    while done < buffer.len() {
+        let count = input.read(&mut buffer[done..])?;
+        if count == 0 {
+            break;
+        }
+        done += count;
+    }
+    Ok(Words {
+        rest: &buffer[..done],
+    })
 }

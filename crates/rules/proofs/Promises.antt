@@ -5,7 +5,7 @@ use mathlib.Core.Path.{◌≡◌, refl, sym, ap, ◌∙◌}
 use mathlib.Core.Bool.{Bool, true}
 use mathlib.Core.List.{List}
 use mathlib.Core.Logic.{◌↔◌}
-use mathlib.Core.Option.{Option, none, some}
+use mathlib.Core.Option.{Option, none, some, some-injective}
 use native.Mathlib.Omega.{arith}
 use lib.ListN.{length}
 use Rattle.std.specs.declared.option.Option as code
@@ -22,7 +22,7 @@ use Rattle.rules.specs.Outcomes.{HandsIn}
 use Rattle.rules.specs.declared.submission.Submission as code_submission
 use Rattle.std.specs.declared.result.Result.{Result}
 use Rattle.std.specs.declared.result.Result.TheVariants.{Ok, Err}
-use Rattle.rules.specs.Promises.{judge_plain, Lengths, Refused, One, Counted, Complete, NoneBad}
+use Rattle.rules.specs.Promises.{judge_plain, Lengths, Refused, SameHandedIn, One, Counted, Complete, NoneBad}
 use Rattle.rules.specs.Reasons.{Submitted}
 use Rattle.rules.specs.declared.judging.FirstRefused.{FirstRefused}
 use Rattle.rules.specs.Judging.{Verdict}
@@ -42,6 +42,24 @@ tells_number : (n : Refusal) → tells (refusing n) ≡ some n.number
 unfolding verdict_refusal
 tells_number n = refl
 
+-- a refusal is its number
+same_number : {n m : Refusal} → some n.number ≡ some m.number → n ≡ m
+same_number {n} {m} e = ap (λ (k : ℕ). record { number = k }) (some-injective _ _ e)
+
+same_handed_in :
+    (most level : ℕ) (sli : Bool) (bytes map list : List ℕ) (a b : Result code_submission.Submission Refusal)
+    → HandsIn most level sli bytes map list a
+    → HandsIn most level sli bytes map list b
+    → SameHandedIn a b
+same_handed_in most level sli bytes map list (Ok x) (Ok y) h k = (
+  ap (λ (z : Submission). z.setting) (h.1 ∙ sym k.1),
+  h.2 ∙ sym k.2,
+  ap (λ (z : Submission). z.permit) (h.1 ∙ sym k.1),
+)
+same_handed_in most level sli bytes map list (Ok x) (Err m) h k = cc (h.0, k)
+same_handed_in most level sli bytes map list (Err n) (Ok y) h k = cc (h, k.0)
+same_handed_in most level sli bytes map list (Err n) (Err m) h k = same_number (sym h ∙ k)
+
 pub one : One
 one =
     record {
@@ -53,6 +71,7 @@ one =
       nexts = λ d p s a b. one_outcome;
       command_reason = λ setting bytes list m d p s ns a b. one_outcome;
       first_refused = λ setting bytes map list a b. one_outcome;
+      submit = same_handed_in;
       no_such_lengths = λ bytes map list a b. one_outcome;
       judge = λ level sli bytes map list a b. one_outcome;
     }

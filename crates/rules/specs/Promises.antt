@@ -4,6 +4,7 @@ use Rattle.std.specs.Prelude.{ℕ, zero, suc, ◌+◌, ◌*◌, ◌/◌, ◌%◌
 use Rattle.std.proofs.Math.Option.{none, some}
 use Rattle.std.specs.declared.option.Option.{Option}
 use Rattle.std.specs.declared.result.Result.{Result}
+use Rattle.std.specs.declared.result.Result.TheVariants.{Ok, Err}
 use Rattle.word.specs.First.{PlainCase, ◌if◌, FirstIs}
 use Rattle.word.specs.Answers.{check_refusal}
 use Rattle.word.specs.declared.setting.Setting.{Setting}
@@ -92,6 +93,14 @@ pub record Refused : Type 0 where
       → (n : ℕ)
       → submit_refusal r ≡ some n ↔ FirstIs (judge_plain most level sli bytes map list) n
 
+-- Two answers of `submit` hand in the same: the setting, and the bytes of words and list; or they are the same refusal. Where bytes lie
+-- in memory no statement says.
+abbrev pub SameHandedIn : Result code_submission.Submission Refusal → Result code_submission.Submission Refusal → Type 0
+SameHandedIn (Ok x) (Ok y) = (x.setting ≡ y.setting) × (x.words.now ≡ y.words.now) × (x.permit.now ≡ y.permit.now)
+SameHandedIn (Ok x) (Err m) = ⊥
+SameHandedIn (Err n) (Ok y) = ⊥
+SameHandedIn (Err n) (Err m) = n ≡ m
+
 -- Each contract leaves one outcome.
 pub record One : Type 0 where
   pub counts : (setting : Setting) (bytes list : List ℕ) (a b : ℕ) → Counts setting bytes list a → Counts setting bytes list b → a ≡ b
@@ -114,6 +123,11 @@ pub record One : Type 0 where
       → FirstRefuses setting bytes map list a
       → FirstRefuses setting bytes map list b
       → a ≡ b
+  pub submit :
+      (most level : ℕ) (sli : Bool) (bytes map list : List ℕ) (a b : Result code_submission.Submission Refusal)
+      → HandsIn most level sli bytes map list a
+      → HandsIn most level sli bytes map list b
+      → SameHandedIn a b
   pub no_such_lengths : (bytes map list : ℕ) (a b : Bool) → NoSuchLengths bytes map list a → NoSuchLengths bytes map list b → a ≡ b
   pub judge : (level : ℕ) (sli : Bool) (bytes map list : List ℕ) (a b : Judgement) → Judges level sli bytes map list a → Judges level sli bytes map list b → a ≡ b
 

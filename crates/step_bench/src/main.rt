@@ -6,13 +6,18 @@
 
 use channel::Channel;
 use event::{Event, Kind};
-use records::Words;
+use records::{Words, read_words};
+use std::alloc::Allocator;
 use std::fmt;
 use std::io::{self, Read};
 use word::Refusal;
 
-// The level and the number of steps, and at most 1,048,576 words.
-const MOST_BYTES: u64 = 8 + 4 * 1_048_576;
+const MOST_WORDS: usize = 1_048_576;
+
+// How many bytes are read at once, and how often: as many as the most words have.
+const PIECE: usize = 65_536;
+
+const PIECES: usize = 4 * MOST_WORDS / PIECE;
 
 // So that every input comes to an end soon.
 const MOST_STEPS: u32 = 4_000_000;
@@ -21,17 +26,26 @@ const MOST_STEPS: u32 = 4_000_000;
 const TABLE: [u32; 4] = [1, 1, 0x1000, 0];
 
 fn main(rt: HostRuntime) -> io::Result<()> {
-    let mut bytes = Vec::new(rt.alloc());
-    rt.reader().take(MOST_BYTES).read_to_end(&mut bytes)?;
-    if bytes.len() < 8 {
-        bytes.resize(8, 0)?;
-    }
-    let mut input = Words { rest: &bytes };
-    let level = input.next_word();
-    let steps = input.next_word().min(MOST_STEPS);
-    let words: Vec<u32> = input.collect(rt.alloc())?;
+    let mut input = rt.reader();
+    let mut asked = [0; 8];
+    read_words(&mut input, &mut asked)?;
+    let mut asked = Words { rest: &asked };
+    let level = asked.next_word();
+    let steps = asked.next_word().min(MOST_STEPS);
+    let words = load(rt.alloc(), &mut input)?;
     let bench = run(level, steps, &words);
     print!(rt; "{bench}")
+}
+
+// The words to the input's end. Their room is taken once, and the bytes go through one piece, so that the words lie in
+// memory once.
+fn load<A: Allocator>(alloc: A, input: &mut impl Read) -> io::Result<Vec<u32, A>> {
+    let mut words = Vec::with_capacity(alloc, MOST_WORDS)?;
+    let mut bytes = [0; PIECE];
+    for _ in 0..PIECES {
+        words.extend(read_words(input, &mut bytes)?)?;
+    }
+    Ok(words)
 }
 
 // The clock counts the steps.

@@ -8,36 +8,34 @@ mod constant;
 mod question;
 mod tally;
 
-use question::{Kind, Record, Records};
-use records::{MOST_RECORDS, Words};
-use std::io::{self, Read};
+use question::{Kind, Record};
+use records::MOST_RECORDS;
+use std::io::{self, BufReader, Read};
 use tally::Tally;
-
-// No record has more than 17 words.
-const MOST_BYTES: u64 = 68_000_000;
 
 // One word more than may be lent, so that SIZE is tried.
 const SPACE_WORDS: usize = 1_048_577;
 
 fn main(rt: HostRuntime) -> io::Result<()> {
     constant::constants();
-    let mut bytes = Vec::new(rt.alloc());
-    rt.stdin().take(MOST_BYTES).read_to_end(&mut bytes)?;
+    let mut input = BufReader::new(rt.alloc(), rt.reader())?;
     let mut space = vec![in rt.alloc(); 0u32; SPACE_WORDS]?;
-    let words = Words { rest: &bytes };
-    let tally = run(Records { words }, &mut space);
+    let tally = run(&mut input, &mut space)?;
     print!(rt; "{tally}")
 }
 
-fn run(records: Records<'_>, space: &mut [u32]) -> Tally {
+fn run(input: &mut impl Read, space: &mut [u32]) -> io::Result<Tally> {
     let mut tally = Tally::default();
-    for (place, record) in (1..=MOST_RECORDS).zip(records) {
+    for place in 1..=MOST_RECORDS {
+        let Some(record) = Record::next(input)? else {
+            break;
+        };
         tally.count(record.kind);
         if !right(record, space) {
             tally.miss(place, record);
         }
     }
-    tally
+    Ok(tally)
 }
 
 fn right(record: Record, space: &mut [u32]) -> bool {

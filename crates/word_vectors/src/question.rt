@@ -1,10 +1,13 @@
 // The records on standard input: a kind, and the words of its question and answer.
 ghost use Rattle.std.specs.Prelude.{◌≤◌};
 
-use records::Words;
+use records::{Words, read_words};
+use std::io::{self, Read};
 
 // The most words of a record, behind its kind.
 pub(crate) const RECORD_WORDS: usize = 16;
+
+const RECORD_BYTES: usize = 4 * RECORD_WORDS;
 
 #[derive(Clone, Copy)]
 pub enum Kind {
@@ -42,27 +45,30 @@ impl Kind {
     }
 }
 
+// Behind the words that a kind has are zeros.
 #[derive(Clone, Copy)]
 pub struct Record {
     pub kind: Kind,
     pub words: [u32; RECORD_WORDS],
 }
 
-// The records come from these words, and end with them, also in the middle of a record.
-#[derive(Drop)]
-pub(crate) struct Records<'a> {
-    pub(crate) words: Words<'a>,
-}
-
-impl Iterator for Records<'_> {
-    type Item = Record;
-
-    fn next(&mut self) -> Option<Record> {
-        let kind = Kind::from(self.words.next()?);
-        let mut words = [0; RECORD_WORDS];
-        for word in &mut words[..kind.words()] {
-            *word = self.words.next()?;
+impl Record {
+    // The next record, none where the input ends, also in the middle of a record.
+    pub(crate) fn next(input: &mut impl Read) -> io::Result<Option<Record>> {
+        let mut four = [0u8; 4];
+        let Some(number) = read_words(input, &mut four)?.next() else {
+            return Ok(None);
+        };
+        let kind = Kind::from(number);
+        let mut bytes = [0u8; RECORD_BYTES];
+        let wanted = 4 * kind.words();
+        if read_words(input, &mut bytes[..wanted])?.rest.len() < wanted {
+            return Ok(None);
         }
-        Some(Record { kind, words })
+        let mut words = [0; RECORD_WORDS];
+        for (word, given) in words.iter_mut().zip(Words { rest: &bytes }) {
+            *word = given;
+        }
+        Ok(Some(Record { kind, words }))
     }
 }

@@ -22,11 +22,19 @@ pair_of p (suc zero) l =
 pair_of p (suc (suc i)) l = absurd (omega arith)
 
 pub loop-place-init : goal.loop-place-init
-loop-place-init c = outset _ _
+loop-place-init c =
+    let to = c.next_start-place.ensures in (
+      omega arith,
+      pairs_over _ _ _ (outset _ _) _ (omega arith) (λ p l m. to.2 p (omega arith) m),
+    )
 
-pub loop-place-preserved-then-map-place-eq0 : goal.loop-place-preserved-then-map-place-eq0
-loop-place-preserved-then-map-place-eq0 c =
-    pairs_over _ _ _ c.loop-place.invariant _ (omega arith) (λ p l m. let e : p ≡ c.loop-place.place = omega arith in rw e c.if-map-place-eq0.true)
+pub loop-place-preserved : goal.loop-place-preserved
+loop-place-preserved c =
+    let to = c.next_start-place-in-loop-place.ensures in
+    let both = c.loop-inside-test.false in (
+      omega arith,
+      pairs_over _ _ _ c.loop-inside.invariant _ (omega arith) (λ p l m. to.2 p (omega arith) m),
+    )
 
 pub returns-in-Some : goal.returns-in-Some
 returns-in-Some c =
@@ -42,4 +50,4 @@ loop-inside-preserved c =
 
 pub returns : goal.returns
 returns c =
-    pairs_fine _ _ _ c.loop-place.invariant (λ p l m. c.end_of_marks-place-end.ensures.2 p (omega arith) m)
+    pairs_fine _ _ _ c.loop-place.invariant.1 (λ p l m. c.end_of_marks-end.ensures.2 p (omega arith) m)

@@ -1,4 +1,4 @@
-use Prim.Native.Nat.{ℕ, ◌+◌, ◌*◌, ◌%◌, ◌^◌, ◌≤◌, ◌<◌}
+use Prim.Native.Nat.{ℕ, ◌+◌, ◌*◌, ◌%◌, ◌^◌, ◌<◌}
 use mathlib.Core.Path.{◌≡◌, refl, sym, ap, ◌∙◌}
 use mathlib.Core.List.{List, [], ◌∷◌, ◌++◌}
 use mathlib.Core.Logic.{∥∥₁_elim, ∥∥₁_map}
@@ -16,9 +16,9 @@ few : (room : Room) → length room.entries.now < 2 ^ 31
 few room = omega (arith, room.sized.0, room.sized.1)
 
 -- a pair that is not the end has an entry
-module _ (room : Room) (q : Pair) {k : ℕ} (is : k ≡ number_of q) (most : q.place ≤ room.end) (ne : q.place ≡ room.end → ⊥) where
+module _ (room : Room) (q : Pair) {k : ℕ} (is : k ≡ number_of q) (within : q.place < room.end) where
   there : k < length room.entries.now
-  there = let before = number_within q room.end (omega (arith, most, ne)) in omega (arith, is, room.sized.1)
+  there = let before = number_within q room.end within in omega (arith, is, room.sized.1)
 
   small : k < 2 ^ 31
   small = omega (arith, there, few room)
@@ -30,7 +30,7 @@ module _ (room : Room) (q : Pair) {k : ℕ} (is : k ≡ number_of q) (most : q.p
 
     one_more : (fs : List Found) → Holds fs room.entries.now room.count → find room.end j fs q ≡ fs ++ (k found_from j ∷ [])
     one_more fs h =
-        find_new room.end j fs q ne (ap (is_found fs) (sym is) ∙ unfound_by_entry fs room.entries.now room.count h (few room) k there unset)
+        find_new room.end j fs q (λ e. omega (arith, within)) (ap (is_found fs) (sym is) ∙ unfound_by_entry fs room.entries.now room.count h (few room) k there unset)
         ∙ ap (λ (i : ℕ). fs ++ (i found_from j ∷ [])) (sym is)
 
     abbrev once : List ℕ
@@ -53,20 +53,20 @@ module _ (room : Room) (q : Pair) {k : ℕ} (is : k ≡ number_of q) (most : q.p
 
 pub returns-then-pair-self : goal.returns-then-pair-self
 returns-then-pair-self c =
-    let a = c.args in (refl, refl, λ fs h. rw (find_end a.self.now.end a.from fs a.pair c.if-pair-self.true) h)
+    let a = c.args in (refl, refl, λ fs h. rw (find_end a.self.now.end a.from fs a.pair (omega arith)) h)
 
 pub offset_bounds-self-number : goal.offset_bounds-self-number
-offset_bounds-self-number c = omega (arith, small c.args.self.now c.args.pair c.number_of-number.ensures c.requires.1 c.if-pair-self.false)
+offset_bounds-self-number c = omega (arith, small c.args.self.now c.args.pair c.number_of-number.ensures (omega arith))
 
 pub bounds-self-number : goal.bounds-self-number
-bounds-self-number c = there c.args.self.now c.args.pair c.number_of-number.ensures c.requires.1 c.if-pair-self.false
+bounds-self-number c = there c.args.self.now c.args.pair c.number_of-number.ensures (omega arith)
 
 pub returns-then-self-number-ne0 : goal.returns-then-self-number-ne0
 returns-then-self-number-ne0 c =
     let a = c.args in
     let room = a.self.now in
     let is = c.number_of-number.ensures in
-    let at = there room a.pair is c.requires.1 c.if-pair-self.false in (
+    let at = there room a.pair is (omega arith) in (
       refl,
       refl,
       λ fs h.
@@ -75,46 +75,46 @@ returns-then-self-number-ne0 c =
     )
 
 pub offset_bounds-entries-number : goal.offset_bounds-entries-number
-offset_bounds-entries-number c = omega (arith, small c.args.self.now c.args.pair c.number_of-number.ensures c.requires.1 c.if-pair-self.false)
+offset_bounds-entries-number c = omega (arith, small c.args.self.now c.args.pair c.number_of-number.ensures (omega arith))
 
 pub bounds-entries-number : goal.bounds-entries-number
-bounds-entries-number c = there c.args.self.now c.args.pair c.number_of-number.ensures c.requires.1 c.if-pair-self.false
+bounds-entries-number c = there c.args.self.now c.args.pair c.number_of-number.ensures (omega arith)
 
 pub bounds-entries-number-2 : goal.bounds-entries-number-2
-bounds-entries-number-2 c = there c.args.self.now c.args.pair c.number_of-number.ensures c.requires.1 c.if-pair-self.false
+bounds-entries-number-2 c = there c.args.self.now c.args.pair c.number_of-number.ensures (omega arith)
 
 pub overflow_mul-entries : goal.overflow_mul-entries
-overflow_mul-entries c = omega (arith, small c.args.self.now c.args.pair c.number_of-number.ensures c.requires.1 c.if-pair-self.false)
+overflow_mul-entries c = omega (arith, small c.args.self.now c.args.pair c.number_of-number.ensures (omega arith))
 
 pub offset_bounds-entries-self : goal.offset_bounds-entries-self
 offset_bounds-entries-self c =
-    omega (arith, small_count c.args.self.now c.args.pair c.number_of-number.ensures c.requires.1 c.if-pair-self.false c.args.from c.requires.0 c.if-self-number-ne0.false)
+    omega (arith, small_count c.args.self.now c.args.pair c.number_of-number.ensures (omega arith) c.args.from c.requires.0 c.if-self-number-ne0.false)
 
 pub bounds-entries-self : goal.bounds-entries-self
 bounds-entries-self c =
-    entry_left c.args.self.now c.args.pair c.number_of-number.ensures c.requires.1 c.if-pair-self.false c.args.from c.requires.0 c.if-self-number-ne0.false
+    entry_left c.args.self.now c.args.pair c.number_of-number.ensures (omega arith) c.args.from c.requires.0 c.if-self-number-ne0.false
 
 pub overflow_add-entries-3 : goal.overflow_add-entries-3
 overflow_add-entries-3 c =
     let room = c.args.self.now in
-    let at = there room c.args.pair c.number_of-number.ensures c.requires.1 c.if-pair-self.false in
-    let low = next_low room c.args.pair c.number_of-number.ensures c.requires.1 c.if-pair-self.false c.args.from c.requires.0 c.if-self-number-ne0.false in
+    let at = there room c.args.pair c.number_of-number.ensures (omega arith) in
+    let low = next_low room c.args.pair c.number_of-number.ensures (omega arith) c.args.from c.requires.0 c.if-self-number-ne0.false in
     omega (arith, few room)
 
 pub bounds-entries-self-2 : goal.bounds-entries-self-2
 bounds-entries-self-2 c =
-    entry_left c.args.self.now c.args.pair c.number_of-number.ensures c.requires.1 c.if-pair-self.false c.args.from c.requires.0 c.if-self-number-ne0.false
+    entry_left c.args.self.now c.args.pair c.number_of-number.ensures (omega arith) c.args.from c.requires.0 c.if-self-number-ne0.false
 
 pub overflow_add-self : goal.overflow_add-self
 overflow_add-self c =
-    omega (arith, small_count c.args.self.now c.args.pair c.number_of-number.ensures c.requires.1 c.if-pair-self.false c.args.from c.requires.0 c.if-self-number-ne0.false)
+    omega (arith, small_count c.args.self.now c.args.pair c.number_of-number.ensures (omega arith) c.args.from c.requires.0 c.if-self-number-ne0.false)
 
 pub invariant_of-self-clause-filled : goal.invariant_of-self-clause-filled
 invariant_of-self-clause-filled c =
     let room = c.args.self.now in
     ∥∥₁_map room.filled
-    (λ x. (_, held_more room c.args.pair c.number_of-number.ensures c.requires.1 c.if-pair-self.false c.args.from c.requires.0 c.if-self-number-ne0.false x.0 x.1))
+    (λ x. (_, held_more room c.args.pair c.number_of-number.ensures (omega arith) c.args.from c.requires.0 c.if-self-number-ne0.false x.0 x.1))
 
 pub returns : goal.returns
 returns c =
-    (refl, refl, held_more c.args.self.now c.args.pair c.number_of-number.ensures c.requires.1 c.if-pair-self.false c.args.from c.requires.0 c.if-self-number-ne0.false)
+    (refl, refl, held_more c.args.self.now c.args.pair c.number_of-number.ensures (omega arith) c.args.from c.requires.0 c.if-self-number-ne0.false)
