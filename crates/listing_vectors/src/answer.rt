@@ -19,7 +19,7 @@ pub struct Answer {
 }
 
 impl Answer {
-    // The model's.
+    // The model's, of seven words.
     pub(crate) fn next(input: &mut impl Read) -> io::Result<Answer> {
         let mut bytes = [0u8; 28];
         let mut words = read_words(input, &mut bytes)?;

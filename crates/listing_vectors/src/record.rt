@@ -12,7 +12,7 @@ pub struct Record {
     pub miss: Option<Miss>,
 }
 
-// The next record, whose words are lent at the front of the pool.
+// The next record, whose words are lent at the front of the pool. Its kind and its question have six words.
 pub(crate) fn next_record(
     input: &mut impl Read,
     pool: &mut [u32],

@@ -1,4 +1,3 @@
-pub mod Commands
 pub mod Entries
 pub mod Roles
 pub mod PastWord

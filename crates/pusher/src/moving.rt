@@ -1,6 +1,6 @@
 // One move of the pusher.
-ghost use Rattle.std.specs.Prelude.{◌≡◌, ◌≢◌, ◌+◌, ◌≤◌, ◌<◌};
-ghost use Rattle.word.specs.Reading.{number};
+ghost use Rattle.std.specs.Prelude.{◌≡◌, ℕ, ◌+◌, ◌≤◌, ◌<◌};
+ghost use Rattle.word.specs.declared.reading.Reading.TheVariants.{Long};
 ghost use Rattle.word.specs.Promises.{Within};
 ghost use Rattle.pusher.specs.Loan.{PusherLoan, to_pusher, with_words, with_entries};
 ghost use Rattle.pusher.specs.Moving.{word_role, entry_role, act, quietly, failed_by, advanced, counted, parameter_of, used_up, commanded, awaiting, begun, conditional, jumped, called, returned, next_index, prepared};
@@ -153,7 +153,7 @@ impl Pusher {
     }
 
     // A command word. Of a long form the count is still to be read.
-    #[tactic(auto, using(crate::proofs::Commands::no_long), unfolding(crate::specs::Moving::commanded))]
+    #[tactic(auto, unfolding(crate::specs::Moving::commanded))]
     fn command(self, reading: Reading) -> Pushed
         requires { Within reading }
         ensures { result ≡ commanded self reading }
@@ -170,9 +170,9 @@ impl Pusher {
     }
 
     // Every other command.
-    #[tactic(auto, unfolding(crate::specs::Moving::commanded, word::specs::Reading::number))]
+    #[tactic(auto, unfolding(crate::specs::Moving::commanded))]
     fn one_word(self, reading: Reading) -> Pushed
-        requires { (number reading ≢ 5) × Within reading }
+        requires { ((s m c : ℕ) → reading ≡ Long s m c → ⊥) × Within reading }
         ensures { result ≡ commanded self reading }
     {
         match reading {
